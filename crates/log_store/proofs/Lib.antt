@@ -1,0 +1,5 @@
+pub mod Rows
+pub mod Latest
+pub mod Marking
+pub mod Counting
+pub mod Filling

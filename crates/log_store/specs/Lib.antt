@@ -1,0 +1,3 @@
+pub mod Records
+pub mod Logs
+pub mod Laws
