@@ -1,0 +1,14 @@
+pub mod Steps
+pub mod Paths
+pub mod Walks
+pub mod Rule1
+pub mod Rules
+pub mod Codings
+pub mod Judging
+pub mod Keeping
+pub mod Runs
+pub mod Tables
+pub mod Puts
+pub mod Marking
+pub mod Planning
+pub mod Ordering

@@ -1,0 +1,9 @@
+pub mod Chains
+pub mod Formats
+pub mod Refusals
+pub mod Rules
+pub mod Orders
+pub mod Writing
+pub mod Promises
+pub mod Checked
+pub mod Runs
