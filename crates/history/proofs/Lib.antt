@@ -1,0 +1,10 @@
+pub mod Deciding
+pub mod Appends
+pub mod Writes
+pub mod Lefts
+pub mod ReadLaws
+pub mod Chains
+pub mod Marks
+pub mod Tables
+pub mod Lawfuls
+pub mod Determined
