@@ -1,0 +1,12 @@
+pub mod Standing
+pub mod Items
+pub mod Bodies
+pub mod Tables
+pub mod ShareOut
+pub mod Joining
+pub mod ShareIn
+pub mod ShareInHistory
+pub mod DeliverLoops
+pub mod DeliverShapes
+pub mod DeliverStands
+pub mod DeliverAnswers

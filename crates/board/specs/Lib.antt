@@ -1,0 +1,4 @@
+pub mod Standing
+pub mod Said
+pub mod Shares
+pub mod Delivering

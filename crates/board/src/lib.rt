@@ -1,0 +1,3 @@
+// A board: it judges requests alone, keeps the last 32 entries, signs them and hands out proofs.
+pub mod size;
+pub mod state;
