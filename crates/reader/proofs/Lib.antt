@@ -1,0 +1,13 @@
+pub mod Members
+pub mod Lefts
+pub mod Quorums
+pub mod Recorded
+pub mod Ranges
+pub mod Holding
+pub mod Proving
+pub mod Clear
+pub mod Rows
+pub mod Accepting
+pub mod Exampling
+pub mod Telling
+pub mod Tagging
