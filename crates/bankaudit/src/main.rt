@@ -1,6 +1,7 @@
 // The technician's program: requests in bus order and the marks that boards reported come in, and out comes who is right.
 // A line is a call as the board's program takes it, or `mark`, a board's number and what that board printed for 07.
 // Two words may choose the digest (fnv, sha256) and the seal (sip, hmac).
+#![tactic(auto)]
 use anyhow::anyhow;
 use audit::state::Audit;
 use board::size::Place;

@@ -1,4 +1,5 @@
 // The line library by example: what a new board says to lines of every kind, good and damaged.
+#![tactic(auto)]
 #[cfg(test)]
 mod tests {
     use board::size::Place;

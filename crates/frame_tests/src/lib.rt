@@ -1,4 +1,5 @@
 // Tests of frames: every refusal of readers and writers at its first, a middle and its last place, and every length of a largest frame.
+#![tactic(auto)]
 
 #[cfg(test)]
 mod tests {

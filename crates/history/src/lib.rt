@@ -1,5 +1,6 @@
 // What a board has been asked and has answered since it was made, and what follows from that alone:
 // its commits, the state they left, the entries, the chain, the numbers open and the shares.
+#![tactic(auto)]
 
 use fault::Verdict;
 

@@ -1,4 +1,5 @@
 // Tests of frames by their kind: each kind is read by its reader, and every other first byte is refused there.
+#![tactic(auto)]
 
 #[cfg(test)]
 mod tests {

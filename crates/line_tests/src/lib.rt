@@ -1,4 +1,5 @@
 // The line library by example: what a bank with no commits says to lines of every kind, good and damaged.
+#![tactic(auto)]
 #[cfg(test)]
 mod tests {
     use bank::state::Bank;

@@ -1,6 +1,7 @@
 // A store that is a log: installing appends a record, and an item's latest record counts.
 // A full log first drops every record that a later one of its item makes void.
 // The log lives in the memory that it is handed, and never asks for more.
+#![tactic(auto)]
 ghost use Rattle.std.specs.Prelude.{◌≡◌, ◌≤◌, length};
 
 pub mod calls;

@@ -1,4 +1,5 @@
 // Tests of runs: calls on new boards with different stores, their marks, and readings judged with a board's own proof.
+#![tactic(auto)]
 
 #[cfg(test)]
 mod tests {

@@ -1,4 +1,5 @@
 // Tests of proofs: every refusal of the reader and the writer at its first, a middle and its last place, and every length of the largest proof.
+#![tactic(auto)]
 
 #[cfg(test)]
 mod tests {

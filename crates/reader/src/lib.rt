@@ -1,4 +1,5 @@
 // The reader's check: a reading is judged against a proof, the entries of the boards with their tags.
+#![tactic(auto)]
 mod entries;
 mod items;
 pub mod range;

@@ -1,4 +1,5 @@
 // Tests of the reader's check: readings that are accepted, and one for each refusal.
+#![tactic(auto)]
 
 #[cfg(test)]
 mod tests {

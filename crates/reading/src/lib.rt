@@ -1,4 +1,5 @@
 // Readings: what a board holds under some items, read in place and written into a caller's buffer.
+#![tactic(auto)]
 ghost use Rattle.std.specs.Prelude.{◌≡◌, IfOk};
 ghost use Rattle.record.specs.Refusals.{InRange};
 ghost use Rattle.reading.specs.Bodies.{ReadingBody, ReadingReads, reading_of, reading_format};

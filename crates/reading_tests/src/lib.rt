@@ -1,4 +1,5 @@
 // Tests of readings: every refusal of reader and writer at its first, a middle and its last place, and every length of the largest reading.
+#![tactic(auto)]
 
 #[cfg(test)]
 mod tests {

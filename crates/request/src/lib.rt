@@ -1,4 +1,5 @@
 // Requests: a client's reads and writes under its tag, read in place and written into a caller's buffer.
+#![tactic(auto)]
 ghost use Rattle.std.specs.Prelude.{◌≡◌, ◌+◌, ◌≤◌, map, length, take, IfOk};
 ghost use Rattle.record.specs.Refusals.{InRange};
 ghost use Rattle.request.specs.Bodies.{RequestBody, RequestReads, read_request, request_format};

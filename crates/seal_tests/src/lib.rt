@@ -1,4 +1,5 @@
 // The seals by example: known tags, what passes, and what is refused where.
+#![tactic(auto)]
 
 #[cfg(test)]
 mod tests {

@@ -1,4 +1,5 @@
 // Tests of sealed requests: the tag passes with both seals, the bytes are the writer's under that tag, and a refusal leaves the buffer.
+#![tactic(auto)]
 
 #[cfg(test)]
 mod tests {

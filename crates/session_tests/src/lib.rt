@@ -1,4 +1,5 @@
 // Sessions of four boards, of which one may lie.
+#![tactic(auto)]
 
 #[cfg(test)]
 mod tests {

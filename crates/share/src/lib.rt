@@ -1,4 +1,5 @@
 // Shares: a board's tag over the entry of a version, read in place and written into a caller's buffer.
+#![tactic(auto)]
 ghost use Rattle.std.specs.Prelude.{◌≡◌, length, IfOk};
 ghost use Rattle.record.specs.Formats.{written};
 ghost use Rattle.record.specs.Writing.{filled};

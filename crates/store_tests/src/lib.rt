@@ -1,4 +1,5 @@
 // Tests of the two stores: what each keeps, and that they agree after every install.
+#![tactic(auto)]
 
 #[cfg(test)]
 mod tests {

@@ -1,4 +1,5 @@
 // A window that is filled past its end, and an entry that gets its shares out of order.
+#![tactic(auto)]
 
 #[cfg(test)]
 mod tests {
