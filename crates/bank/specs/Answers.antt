@@ -1,5 +1,5 @@
 -- What a bank that has committed nothing answers.
-use Rattle.std.specs.Prelude.{ℕ, Bool, cond, List, [], ◌∷◌, ◌++◌, drop, Ok, Err, Result, ◌==◌, nat_lt}
+use Rattle.std.specs.Prelude.{ℕ, cond, List, [], ◌∷◌, ◌++◌, drop, Ok, Err, Result, ◌==◌, nat_lt}
 use Rattle.fault.specs.declared.Fault.{Fault}
 use Rattle.fault.specs.declared.Cause.TheVariants.{Malformed, NoRoom, NotCommitted}
 use Rattle.fault.specs.declared.Layer.TheVariants.{Board, Frame}

@@ -1,5 +1,6 @@
 // What the benchmark calls from C: the proved algorithms on byte strings in one part.
 #![tactic(auto)]
+
 ghost use Rattle.std.specs.Prelude.{◌≡◌};
 ghost use Rattle.bench_lib.specs.Answers.{Wrote};
 ghost use Rattle.hmac.specs.Hmac.{HMAC};

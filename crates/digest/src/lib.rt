@@ -1,6 +1,7 @@
 // The digest interface, with SHA-256 and 64-bit FNV-1a behind it.
 // A string is handed in as two parts, so that a label can be put before a frame without copying the frame.
 #![tactic(auto)]
+
 ghost use Rattle.std.specs.Prelude.{◌≡◌, ℕ, ◌+◌, ◌*◌, ◌≤◌, List, ◌++◌, length, Decides};
 ghost use Rattle.std.proofs.Math.Path.{refl};
 ghost use Rattle.digest.specs.Fnv.{fnv_words, hashed};

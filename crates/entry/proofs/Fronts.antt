@@ -1,5 +1,5 @@
 -- The front of a row of records, as what it says.
-use Rattle.std.proofs.Common.{◌≡◌, ℕ, zero, suc, ◌+◌, ◌<◌, ◌≤◌, List, [], ◌∷◌, ◌++◌, map, length, get_or, take, set, sym, refl, ap, ◌∙◌, le_of_suc-le-suc, not-suc-le-zero, arith, length-take}
+use Rattle.std.proofs.Common.{◌≡◌, ℕ, zero, suc, ◌+◌, ◌<◌, ◌≤◌, List, [], ◌∷◌, ◌++◌, map, length, get_or, take, set, sym, ap, ◌∙◌, le_of_suc-le-suc, not-suc-le-zero, arith, length-take}
 use Rattle.std.proofs.lemmas.List.{length-map, map_push, take_more_set}
 
 module _ {X B : Type 0} (f : X → B) (xs : List X) (n : ℕ) where

@@ -1,6 +1,7 @@
 // What a call answers when it refuses, and the two verdicts on a request.
 // A refusal is a value like any other: a cause, the layer that found it and a place.
 #![tactic(auto)]
+
 ghost use Rattle.std.specs.Prelude.{◌≡◌};
 ghost use Rattle.fault.specs.Codes.{letter, number, verdict_byte};
 

@@ -1,5 +1,6 @@
 // Any frame, by its kind: the decoded frame borrows its lists of records and its tags from the input.
 #![tactic(auto)]
+
 ghost use Rattle.frame.specs.Frames.{FrameRead, PartsFound};
 
 use fault::{Cause, Fault, Layer};

@@ -1,5 +1,6 @@
 // HMAC-SHA-256 as RFC 2104 defines it, under a key of thirty-two bytes and over a text handed in as two parts.
 #![tactic(auto)]
+
 ghost use Rattle.std.specs.Prelude.{◌≡◌, List, ◌++◌, take, replicate};
 ghost use Rattle.hmac.specs.Hmac.{Coded, Keyed, ◌⊕◌, filled, ipad, opad};
 

@@ -1,6 +1,7 @@
 // The labels that stand before the strings that are sealed or chained.
 // Requests, entries and chains have one each, so that no string of one kind can pass for a string of another.
 #![tactic(auto)]
+
 ghost use Rattle.std.specs.Prelude.{◌≡◌};
 ghost use Rattle.label.specs.Labels.{Apart, label_bytes};
 

@@ -1,10 +1,10 @@
 -- The call of a line, by the bytes that it holds.
-use Rattle.std.proofs.Common.{◌≡◌, ℕ, ◌+◌, ◌<◌, ◌≤◌, false, cond, eqb, leb, List, [], ◌∷◌, length, Some, None, Option, sym, refl, ap, ◌∙◌, inl, inr, arith, length-take, le-leb}
+use Rattle.std.proofs.Common.{◌≡◌, ℕ, ◌+◌, ◌<◌, ◌≤◌, false, eqb, leb, List, [], ◌∷◌, length, None, Option, sym, ap, ◌∙◌, inl, inr, arith, length-take, le-leb}
 use borrow.Author.Tests.{lt-leb}
 use Rattle.std.proofs.lemmas.List.{take_all}
 use Rattle.std.proofs.lemmas.Bool.{cases_lt, cond-false, cond-true, true≢false}
 use Rattle.line.specs.Hex.{unhex}
-use Rattle.line.specs.Lines.{call_of, call_of_bytes, kept_of, line_call, line_limit}
+use Rattle.line.specs.Lines.{call_of_bytes, kept_of, line_call, line_limit}
 use Rattle.line.specs.Replies.{digits, line_answer, reply_to}
 use Rattle.store.specs.Slot.{Slot}
 use Rattle.line.specs.declared.serve.Step.{Step}

@@ -1,5 +1,5 @@
 -- Which call a line asks for.
-use Rattle.std.specs.Prelude.{ℕ, ◌+◌, ◌*◌, Bool, cond, ◌&&◌, List, [], ◌∷◌, length, take, Some, None, Option, ◌==◌, nat_le, slice_index}
+use Rattle.std.specs.Prelude.{ℕ, ◌+◌, ◌*◌, Bool, cond, ◌&&◌, List, length, take, Some, None, Option, ◌==◌, nat_le, slice_index}
 use Rattle.line.specs.declared.call.Call.{Call}
 use Rattle.line.specs.declared.call.Call.TheVariants.{Deliver, Item, Mark, Proof, ShareIn, ShareOut}
 use Rattle.line.specs.Hex.{unhex}

@@ -1,7 +1,7 @@
 -- The latest records are those that no later one of their item follows.
 use Rattle.std.proofs.Common.{◌≡◌, ℕ, zero, suc, ◌<◌, Bool, true, false, cond, not, List, [], ◌∷◌, length, get_or, drop, sym, refl, ap, add-one, arith}
 use Rattle.store.specs.Slot.{blank}
-use Rattle.log_store.specs.Records.{item_of, has, latest, latest_only}
+use Rattle.log_store.specs.Records.{item_of, has, latest_only}
 use Rattle.log_store.specs.Laws.{Latest_counts, Tidying, marked}
 use Rattle.log_store.specs.declared.records.LogRecord.{LogRecord}
 use Rattle.log_store.proofs.Rows.{last_none, last_split}

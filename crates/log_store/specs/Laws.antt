@@ -1,5 +1,5 @@
 -- What holds of every row of records.
-use Rattle.std.specs.Prelude.{◌≡◌, ℕ, ◌+◌, ◌<◌, ◌≤◌, Bool, true, false, cond, not, List, [], ◌∷◌, ◌++◌, length, drop, ◌==◌, slice_index_or}
+use Rattle.std.specs.Prelude.{◌≡◌, ℕ, ◌+◌, ◌<◌, ◌≤◌, Bool, false, cond, not, List, [], ◌∷◌, ◌++◌, length, drop, ◌==◌, slice_index_or}
 use Rattle.store.specs.Slot.{slot, blank}
 use Rattle.log_store.specs.Records.{item_of, has, latest, latest_only, counted, different, installed}
 use Rattle.log_store.specs.declared.records.LogRecord.{LogRecord}

@@ -2,6 +2,7 @@
 // A full log first drops every record that a later one of its item makes void.
 // The log lives in the memory that it is handed, and never asks for more.
 #![tactic(auto)]
+
 ghost use Rattle.std.specs.Prelude.{◌≡◌, ◌≤◌, length};
 
 pub mod calls;

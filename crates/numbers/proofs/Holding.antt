@@ -1,9 +1,9 @@
 -- What is held of a client, and what after one more verdict.
-use Rattle.std.proofs.Common.{◌≡◌, ℕ, zero, suc, ◌+◌, ◌-◌, ◌<◌, ◌≤◌, min, ◌≢◌, ◌⊎◌, List, [], ◌∷◌, ◌++◌, length, get_or, set, Some, None, Option, sym, refl, ap, ◌∙◌, subst, inl, inr, not-suc-le-zero, arith}
+use Rattle.std.proofs.Common.{◌≡◌, ℕ, zero, suc, ◌+◌, ◌-◌, ◌<◌, ◌≤◌, List, [], ◌∷◌, ◌++◌, length, get_or, set, Some, None, Option, sym, refl, ap, ◌∙◌, subst, inl, inr, not-suc-le-zero, arith}
 use Rattle.std.proofs.lemmas.List.{get_or-set_same, get_or-set_other, length-set}
 use Rattle.std.proofs.lemmas.Bool.{cases_eq}
 use Rattle.octets.specs.Numbers.{limit}
-use Rattle.numbers.specs.Sequence.{EverOpened, Open, opens}
+use Rattle.numbers.specs.Sequence.{Open}
 use Rattle.numbers.specs.Tracking.{Behind, Tracks, UsesUp}
 use Rattle.numbers.specs.declared.client.Numbers.{Numbers}
 use Rattle.numbers.proofs.Opening.{opened_is, opens-behind, opens-next, rightly-more, steps}

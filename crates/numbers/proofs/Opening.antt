@@ -1,11 +1,11 @@
 -- The numbers that are open, verdict by verdict.
-use Rattle.std.proofs.Common.{◌≡◌, ℕ, ◌+◌, ◌<◌, ◌≤◌, min, leb, ◌⊎◌, List, [], ◌∷◌, ◌++◌, length, sym, refl, ap, ◌∙◌, subst, inl, inr, not-suc-le-zero, arith, lit≤}
+use Rattle.std.proofs.Common.{◌≡◌, ℕ, ◌+◌, ◌<◌, ◌≤◌, leb, ◌⊎◌, List, [], ◌∷◌, ◌++◌, length, sym, ◌∙◌, subst, inl, inr, not-suc-le-zero, arith, lit≤}
 use Rattle.std.specs.List.{ContainsAt as Has}
 use Rattle.std.proofs.ByRecursion.{has_append_left, has_push, has_push_cases}
 use Rattle.std.proofs.lemmas.List.{length_push}
 use Rattle.std.proofs.lemmas.Bool.{cases_lt, cond-true, cond-false, le-leb, lt-leb}
 use Rattle.octets.specs.Numbers.{limit}
-use Rattle.numbers.specs.Sequence.{EverOpened, Open, Rightly, Steps, opens}
+use Rattle.numbers.specs.Sequence.{Open, Rightly, Steps, opens}
 use Rattle.numbers.specs.Tracking.{Behind}
 
 module _ (w : ℕ) (used : List ℕ) where

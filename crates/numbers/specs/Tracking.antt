@@ -1,7 +1,7 @@
 -- How what is held of clients stands to the numbers that they used.
-use Rattle.std.specs.Prelude.{◌≡◌, ℕ, ◌+◌, ◌<◌, ◌≤◌, Bool, true, false, ◌⊎◌, List, [], ◌∷◌, ◌++◌, length, Some, None, Option, slice_index}
+use Rattle.std.specs.Prelude.{◌≡◌, ℕ, ◌+◌, ◌<◌, ◌≤◌, List, [], ◌∷◌, ◌++◌, length, Some, None, Option, slice_index}
 use Rattle.octets.specs.Numbers.{limit}
-use Rattle.numbers.specs.Sequence.{EverOpened, Open, Rightly, opens}
+use Rattle.numbers.specs.Sequence.{Open, Rightly, opens}
 use Rattle.numbers.specs.declared.client.Numbers.{Numbers}
 
 -- One client's numbers are those that its verdicts left: what is held is open, what is open is held, and in one place.

@@ -1,5 +1,6 @@
 // Numbers as bytes, high byte first, and bytes that are put into a buffer: the answer in front, the old bytes behind.
 #![tactic(auto)]
+
 ghost use Rattle.std.specs.Prelude.{◌≡◌, ◌+◌, ◌≤◌, length};
 ghost use Rattle.octets.specs.Numbers.{be, limit, number_at};
 ghost use Rattle.octets.specs.Parts.{over, part_at};

@@ -1,24 +1,24 @@
 -- Proofs and the fields of their frames: which frames are in range, and the rows that judge them.
-use Rattle.std.proofs.Common.{◌≡◌, ℕ, zero, suc, ◌+◌, ◌-◌, ◌*◌, ◌<◌, ◌≤◌, Bool, true, false, ◌&&◌, ◌||◌, eqb, leb, ◌⊎◌, List, [], ◌∷◌, ◌++◌, length, Some, None, Ok, Err, Option, Result, sym, refl, ap, ◌∙◌, subst, inl, inr, arith}
+use Rattle.std.proofs.Common.{◌≡◌, ℕ, zero, suc, ◌+◌, ◌-◌, ◌*◌, ◌≤◌, Bool, true, ◌&&◌, eqb, leb, List, [], ◌∷◌, ◌++◌, length, Some, None, sym, refl, ap, ◌∙◌, subst, inl, inr, arith}
 use Rattle.std.specs.List.{flat_map, AllByRecursion}
 use Rattle.std.proofs.lemmas.List.{append_assoc, append-nil, length-append}
 use Rattle.std.proofs.lemmas.Bool.{le-leb, leb-true, eq-eqb, eqb-true, and_parts, and_from, or_cases, or_left}
 use Rattle.fault.specs.declared.Fault.{Fault}
 use Rattle.fault.specs.declared.Layer.TheVariants.{Proof}
-use Rattle.octets.specs.Numbers.{Bytes, limit, be}
+use Rattle.octets.specs.Numbers.{limit, be}
 use Rattle.octets.proofs.NumberLaws.{length-be, power_more}
 use Rattle.std.proofs.lemmas.Nat.{pow_pos}
 use Rattle.record.specs.Rules.{spots}
-use Rattle.record.specs.Formats.{Format, number, string, done, ◌>>=◌, is, up_to, within, Field, num, str, written, Fields}
+use Rattle.record.specs.Formats.{done, is, Field, num, str, written, Fields}
 use Rattle.record.proofs.Paths.{Live, live_bind, written-append}
 use Rattle.record.proofs.Codings.{Coding, opened, Two, two, joins}
-use Rattle.entry.specs.Bodies.{ItemBody, EntryBody, PairBody, SealedBody, item_bytes, head_bytes, entry_bytes, pair_bytes, sealed_bytes}
-use Rattle.ruled.specs.Ruled.{Ruled, numeral, text, end, follow, plain, rows}
+use Rattle.entry.specs.Bodies.{ItemBody, PairBody, SealedBody, item_bytes, head_bytes, pair_bytes, sealed_bytes}
+use Rattle.ruled.specs.Ruled.{Ruled, end, follow, plain, rows}
 use Rattle.ruled.proofs.Scans.{plain-follow, rows-follow}
 use Rattle.ruled.proofs.Least.{Tidy, tidy_follow}
 use Rattle.proof.specs.Bodies.{ProofBody, item_fields, pair_fields, sealed_fields, proof_fields, proof_bytes, range, ItemIn, PairIn, SealedIn, EntriesIn, ProofIn}
-use Rattle.proof.specs.Rules.{records_from, items_from, pairs_from, sealed_from, entries_from, proof_ruled, item_number, pair_number, item_spots, pair_spots, entries_at}
-use Rattle.proof.proofs.Records.{record_format, item_of, pair_of, item_coding, pair_coding, records_coding, rows_records, live_records, tidy_records, piece_bytes_lem, table}
+use Rattle.proof.specs.Rules.{items_from, pairs_from, sealed_from, entries_from, proof_ruled, item_number, pair_number, item_spots, pair_spots, entries_at}
+use Rattle.proof.proofs.Records.{item_of, pair_of, item_coding, pair_coding, records_coding, rows_records, live_records, tidy_records, piece_bytes_lem, table}
 
 -- one format behind another, at the level of fields
 module _ {A B : Type 0} (c : Ruled A) (h : A → Ruled B) where

@@ -1,5 +1,5 @@
 -- The promise of the reader of proofs.
-use Rattle.std.proofs.Common.{◌≡◌, ℕ, zero, suc, ◌+◌, ◌-◌, ◌<◌, ◌≤◌, Bool, true, false, ◌⊎◌, List, [], ◌∷◌, ◌++◌, map, length, take, Some, None, Ok, Err, Option, Result, sym, refl, ap, ◌∙◌, subst, inl, inr, arith}
+use Rattle.std.proofs.Common.{◌≡◌, ℕ, suc, ◌+◌, Bool, true, false, ◌⊎◌, List, [], ◌∷◌, ◌++◌, map, length, Some, None, Ok, Err, Option, Result, sym, refl, ap, ◌∙◌, subst, inl, inr}
 use Rattle.std.specs.List.{AllByRecursion}
 use Rattle.fault.specs.declared.Fault.{Fault}
 use Rattle.fault.specs.declared.Layer.TheVariants.{Proof}
@@ -8,15 +8,15 @@ use Rattle.fault.specs.declared.Cause.TheVariants.{Malformed, NotRising, NotMemb
 use Rattle.fault.specs.Codes.{fault}
 use Rattle.octets.specs.Numbers.{Bytes}
 use Rattle.record.specs.Formats.{written}
-use Rattle.record.specs.Rules.{Spot, above, rising, member}
+use Rattle.record.specs.Rules.{Spot, above, rising}
 use Rattle.entry.specs.Bodies.{SealedBody, sealed_bytes}
 use Rattle.ruled.specs.Ruled.{rows}
-use Rattle.ruled.specs.Standing.{Among, Passes, Before, Alike, Broken, Stands, Kept, Answered}
+use Rattle.ruled.specs.Standing.{Among, Passes, Alike, Broken, Stands, Kept, Answered}
 use Rattle.ruled.proofs.Tables.{among-left, among_right, among_cases, none_fails}
 use Rattle.ruled.proofs.Answering.{answered, answered-only}
 use Rattle.proof.specs.Bodies.{ProofBody, ProofIn, proof_fields, proof_bytes}
-use Rattle.proof.specs.Rules.{numbered, proof_ruled, proof_of, item_spots, pair_spots, rising_rows, member_row, member_rows, entries_at}
-use Rattle.proof.specs.Promises.{MalformedAt, NotRisingAt, NotMemberAt, ProofStands, ProofKept, ProofAnswered, ProofReads}
+use Rattle.proof.specs.Rules.{proof_ruled, proof_of, item_spots, pair_spots, rising_rows, member_row, member_rows, entries_at}
+use Rattle.proof.specs.Promises.{MalformedAt, ProofStands, ProofKept, ProofAnswered, ProofReads}
 use Rattle.proof.proofs.Records.{table}
 use Rattle.proof.proofs.Frames.{proof_coding, proof_live, proof_tidy, proof-bytes, rows-proof, sealed_table, entries_table}
 

@@ -1,15 +1,15 @@
 -- Sealed entries where they lie in a frame: their sizes, and the place of each.
-use Rattle.std.proofs.Common.{◌≡◌, ℕ, zero, suc, ◌+◌, ◌-◌, ◌*◌, ◌<◌, ◌≤◌, Bool, true, false, ◌&&◌, ◌||◌, eqb, leb, ◌⊎◌, List, [], ◌∷◌, ◌++◌, length, get_or, take, drop, sym, refl, ap, ◌∙◌, subst, inl, inr, le_of_suc-le-suc, not-suc-le-zero, mul-le-mul_right, mul-zero, mul-suc, arith}
+use Rattle.std.proofs.Common.{◌≡◌, ℕ, zero, suc, ◌+◌, ◌-◌, ◌*◌, ◌<◌, ◌≤◌, true, ◌&&◌, eqb, leb, List, [], ◌∷◌, ◌++◌, length, get_or, take, drop, sym, refl, ap, ◌∙◌, subst, inl, inr, le_of_suc-le-suc, not-suc-le-zero, mul-le-mul_right, mul-suc, arith}
 use Rattle.std.specs.List.{flat_map, AllByRecursion}
 use Rattle.std.proofs.lemmas.List.{append_assoc, append-nil, length-append, drop_at}
 use Rattle.std.proofs.lemmas.Bool.{leb-true, eqb-true, and_parts, or_cases}
 use Rattle.octets.specs.Numbers.{limit, be, number_at}
 use Rattle.octets.specs.Parts.{part_at}
 use Rattle.octets.proofs.NumberLaws.{length-be}
-use Rattle.entry.specs.Bodies.{ItemBody, PairBody, SealedBody, item_bytes, head_bytes, entry_bytes, pair_bytes, sealed_bytes}
+use Rattle.entry.specs.Bodies.{PairBody, SealedBody, item_bytes, head_bytes, entry_bytes, pair_bytes, sealed_bytes}
 use Rattle.ruled.proofs.Scans.{lies, number_lies}
-use Rattle.proof.specs.Bodies.{ProofBody, ItemIn, PairIn, SealedIn, EntriesIn, ProofIn, proof_bytes, range}
-use Rattle.proof.specs.Rules.{item_number, pair_number, entries_at}
+use Rattle.proof.specs.Bodies.{ProofBody, ItemIn, PairIn, SealedIn, EntriesIn, range}
+use Rattle.proof.specs.Rules.{item_number, pair_number}
 use Rattle.proof.specs.Parts.{Holds, entry_place}
 use Rattle.proof.proofs.Frames.{digest_of, tag_of, range-fits}
 use Rattle.proof.proofs.Strides.{stride_length}

@@ -1,22 +1,21 @@
 -- Records of a number and a string: items with their digests, pairs of signer and tag.
-use Rattle.std.proofs.Common.{◌≡◌, ℕ, zero, suc, ◌+◌, ◌-◌, ◌<◌, ◌≤◌, Bool, true, false, leb, ◌⊎◌, List, [], ◌∷◌, ◌++◌, length, Some, None, Ok, Err, Option, Result, sym, refl, ap, ◌∙◌, subst, inl, inr, arith}
+use Rattle.std.proofs.Common.{◌≡◌, ℕ, zero, suc, ◌+◌, Bool, List, [], ◌∷◌, ◌++◌, length, Some, None, Option, sym, refl, ap, ◌∙◌, subst, arith}
 use Rattle.std.specs.List.{flat_map, AllByRecursion}
-use Rattle.std.proofs.lemmas.List.{append_assoc, append-nil, length-append}
+use Rattle.std.proofs.lemmas.List.{append-nil, length-append}
 use Rattle.std.proofs.lemmas.Bool.{le-leb, leb-true}
 use Rattle.fault.specs.declared.Fault.{Fault}
 use Rattle.fault.specs.declared.Layer.TheVariants.{Proof}
-use Rattle.octets.specs.Numbers.{Bytes, limit, be}
-use Rattle.record.specs.Formats.{Format, number, string, done, ◌>>=◌, repeat, up_to, Field, num, str, written, Fields}
+use Rattle.record.specs.Formats.{Format, number, string, done, ◌>>=◌, repeat, up_to, Field, num, str, written}
 use Rattle.record.specs.Rules.{Spot, spots}
-use Rattle.record.proofs.Paths.{Live, live_repeat, written-append}
+use Rattle.record.proofs.Paths.{Live, live_repeat}
 use Rattle.record.proofs.Codings.{Coding, opened, repeated}
-use Rattle.entry.specs.Bodies.{ItemBody, PairBody, item_bytes, pair_bytes}
-use Rattle.ruled.specs.Ruled.{Ruled, numeral, text, end, follow, plain, rows}
+use Rattle.entry.specs.Bodies.{ItemBody, PairBody}
+use Rattle.ruled.specs.Ruled.{Ruled, end, follow, plain, rows}
 use Rattle.ruled.proofs.Tables.{Neat}
 use Rattle.ruled.proofs.Scans.{plain-follow, rows-follow}
 use Rattle.ruled.proofs.Least.{Tidy, tidy_follow}
 use Rattle.proof.specs.Bodies.{item_fields, pair_fields, ItemIn, PairIn}
-use Rattle.proof.specs.Rules.{numbered, records_from, items_from, pairs_from}
+use Rattle.proof.specs.Rules.{numbered, records_from}
 
 -- one record
 abbrev pub record_format : {R : Type 0} → (ℕ → List ℕ → R) → ℕ → ℕ → Format R

@@ -1,5 +1,5 @@
 -- One turn of the loops over records and entries.
-use Rattle.std.proofs.Common.{◌≡◌, ℕ, zero, suc, ◌+◌, ◌-◌, ◌<◌, ◌≤◌, Bool, true, false, leb, List, [], ◌∷◌, ◌++◌, length, get_or, Some, None, Ok, Err, Option, Result, sym, refl, ap, ◌∙◌, subst, arith}
+use Rattle.std.proofs.Common.{◌≡◌, ℕ, zero, suc, ◌+◌, ◌-◌, ◌<◌, ◌≤◌, Bool, true, false, leb, List, [], ◌∷◌, length, get_or, Some, None, Ok, Err, Option, Result, sym, refl, ap, ◌∙◌, arith}
 use Rattle.std.proofs.lemmas.Bool.{le-leb, lt-leb}
 use Rattle.fault.specs.declared.Fault.{Fault}
 use Rattle.fault.specs.declared.Layer.TheVariants.{Proof}
@@ -11,7 +11,7 @@ use Rattle.record.specs.Chains.{unless, and_then, guards, tested}
 use Rattle.record.specs.Formats.{is, up_to, within}
 use Rattle.record.proofs.Steps.{never, pass, refuse, then_ok, then_err}
 use Rattle.record.proofs.Rules.{unless_then}
-use Rattle.entry.specs.Bodies.{ItemBody, EntryBody, PairBody, SealedBody}
+use Rattle.entry.specs.Bodies.{ItemBody, PairBody, SealedBody}
 use Rattle.ruled.specs.Ruled.{Ruled, end, follow, scan}
 use Rattle.ruled.proofs.Scans.{scan-follow, scan_then}
 use Rattle.proof.specs.Rules.{numbered, records_from, items_from, pairs_from, sealed_from, entries_from}

@@ -1,27 +1,25 @@
 -- Records that are to be written, and what their reader says of their bytes.
-use Rattle.std.proofs.Common.{◌≡◌, ℕ, zero, suc, ◌+◌, ◌-◌, ◌*◌, ◌<◌, ◌≤◌, Bool, true, false, ◌&&◌, eqb, leb, List, [], ◌∷◌, ◌++◌, map, length, get_or, take, drop, Some, None, Ok, Err, Option, Result, sym, refl, ap, ◌∙◌, subst, mul-zero, mul-suc, arith}
+use Rattle.std.proofs.Common.{◌≡◌, ℕ, zero, suc, ◌+◌, ◌-◌, ◌≤◌, Bool, true, false, ◌&&◌, eqb, leb, List, [], ◌∷◌, ◌++◌, length, take, drop, Some, None, Ok, Err, Option, Result, sym, refl, ap, ◌∙◌, subst, arith}
 use Rattle.std.specs.List.{flat_map, AllByRecursion}
-use Rattle.std.proofs.lemmas.List.{append_assoc, append-nil, length-append, length-take-le, take-append-drop, take_at}
+use Rattle.std.proofs.lemmas.List.{append_assoc, append-nil, length-append, length-take-le, take-append-drop}
 use Rattle.std.proofs.lemmas.Bool.{le-leb, leb-true, eq-eqb, eqb-true, and_parts, and_from}
 use Rattle.fault.specs.declared.Fault.{Fault}
 use Rattle.fault.specs.declared.Layer.TheVariants.{Proof}
 use Rattle.fault.specs.declared.Cause.TheVariants.{Malformed}
 use Rattle.fault.specs.Codes.{fault}
-use Rattle.octets.specs.Numbers.{Bytes, limit, be, number_at}
-use Rattle.octets.specs.Parts.{part_at}
+use Rattle.octets.specs.Numbers.{limit, be, number_at}
 use Rattle.octets.proofs.NumberLaws.{length-be, number-there}
-use Rattle.record.specs.Chains.{unless, after, and_then, guards}
+use Rattle.record.specs.Chains.{unless, and_then, guards}
 use Rattle.record.specs.Formats.{is, up_to, within}
-use Rattle.record.specs.Writing.{room_for, filled}
-use Rattle.record.proofs.Steps.{never, pass, passed, then_ok, then_err, then_some, same_ok}
+use Rattle.record.proofs.Steps.{never, passed, then_some, same_ok}
 use Rattle.record.proofs.Rules.{unless_then}
 use Rattle.entry.specs.Bodies.{ItemBody, PairBody, SealedBody, item_bytes, pair_bytes, head_bytes, entry_bytes, sealed_bytes}
 use Rattle.ruled.specs.Ruled.{Ruled, numeral, text, end, free, follow, scan, ending}
 use Rattle.ruled.proofs.Tables.{guards_passed}
 use Rattle.ruled.proofs.Scans.{lies, text-step, scan-follow, guards_then}
 use Rattle.proof.specs.Bodies.{ProofBody, proof_bytes, range}
-use Rattle.proof.specs.Rules.{numbered, records_from, items_from, pairs_from, sealed_from, entries_from, proof_ruled, proof_of, item_number, pair_number, entries_at}
-use Rattle.proof.specs.Writing.{weigh_records, weigh_sealed, weigh_entries, weigh_proof, write_proof, Framed}
+use Rattle.proof.specs.Rules.{numbered, records_from, items_from, pairs_from, sealed_from, entries_from, proof_of, item_number, pair_number}
+use Rattle.proof.specs.Writing.{weigh_records, weigh_sealed, weigh_entries, weigh_proof, Framed}
 use Rattle.proof.proofs.Records.{piece_bytes, item_of, pair_of}
 use Rattle.proof.proofs.Frames.{digest_of, tag_of}
 

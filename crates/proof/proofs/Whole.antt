@@ -1,8 +1,7 @@
 -- A whole proof frame from the ends of its parts.
-use Rattle.std.proofs.Common.{◌≡◌, ℕ, suc, ◌+◌, ◌-◌, ◌<◌, ◌≤◌, Bool, true, false, leb, List, [], ◌∷◌, ◌++◌, length, get_or, Ok, Err, Result, sym, refl, ap, ◌∙◌, subst, arith}
+use Rattle.std.proofs.Common.{◌≡◌, ℕ, ◌+◌, ◌-◌, ◌<◌, ◌≤◌, leb, List, length, get_or, Ok, Err, Result, sym, refl, ap, ◌∙◌, subst}
 use Rattle.std.proofs.lemmas.Bool.{le-leb, lt-leb}
 use Rattle.fault.specs.declared.Fault.{Fault}
-use Rattle.fault.specs.declared.Layer.{Layer}
 use Rattle.fault.specs.declared.Layer.TheVariants.{Proof}
 use Rattle.fault.specs.declared.Cause.TheVariants.{Malformed}
 use Rattle.fault.specs.Codes.{fault}
@@ -12,15 +11,15 @@ use Rattle.record.specs.Formats.{is, within}
 use Rattle.record.proofs.Steps.{never, pass, refuse, then_ok, then_err}
 use Rattle.record.proofs.Rules.{unless_then}
 use Rattle.entry.specs.Bodies.{SealedBody}
-use Rattle.ruled.specs.Ruled.{Ruled, numeral, end, free, follow, scan, ending}
+use Rattle.ruled.specs.Ruled.{Ruled, end, follow, scan, ending}
 use Rattle.ruled.proofs.Scans.{scan-follow, scan_then}
 use Rattle.proof.specs.declared.range.Range.{Range}
 use Rattle.proof.specs.declared.read.Proof.{Proof as Frame}
-use Rattle.proof.specs.Bodies.{ProofBody, proof_bytes, range}
-use Rattle.proof.specs.Rules.{entries_from, proof_ruled, proof_of}
+use Rattle.proof.specs.Bodies.{ProofBody, range}
+use Rattle.proof.specs.Rules.{entries_from, proof_of}
 use Rattle.proof.specs.Ends.{end_of, range_of}
-use Rattle.proof.specs.Promises.{ProofReads, ProofKept, ProofAnswered}
-use Rattle.proof.specs.Parts.{Seen, Holds}
+use Rattle.proof.specs.Promises.{ProofAnswered}
+use Rattle.proof.specs.Parts.{Seen}
 use Rattle.proof.proofs.Keeping.{reads}
 
 -- a scan that only answers where it ends, and one that goes on

@@ -1,5 +1,5 @@
 -- Where the parts of a proof end, as its reader finds them.
-use Rattle.std.specs.Prelude.{ℕ, List, None, Ok, Option, Result}
+use Rattle.std.specs.Prelude.{ℕ, List, Ok, Option, Result}
 use Rattle.fault.specs.declared.Fault.{Fault}
 use Rattle.fault.specs.declared.Layer.TheVariants.{Proof}
 use Rattle.octets.specs.Numbers.{limit}

@@ -1,5 +1,5 @@
 -- What a proof that is read in place holds, and its parts one by one.
-use Rattle.std.specs.Prelude.{◌≡◌, ℕ, ◌+◌, ◌*◌, ◌<◌, ◌≤◌, List, [], ◌∷◌, length, take, Some, None, Ok, Err, Option, Result, slice_index_or}
+use Rattle.std.specs.Prelude.{◌≡◌, ℕ, ◌+◌, ◌*◌, ◌<◌, ◌≤◌, List, length, take, Some, None, Ok, Err, Option, Result, slice_index_or}
 use Rattle.std.specs.List.{flat_map}
 use Rattle.fault.specs.declared.Fault.{Fault}
 use Rattle.entry.specs.Bodies.{ItemBody, PairBody, SealedBody, entry_bytes, sealed_bytes, pair_bytes}

@@ -6,8 +6,8 @@ use Rattle.fault.specs.declared.Cause.TheVariants.{NotRising}
 use Rattle.fault.specs.Codes.{fault}
 use Rattle.octets.specs.Numbers.{limit}
 use Rattle.record.specs.Formats.{Format, is, up_to, within}
-use Rattle.record.specs.Rules.{Spot, spots, above, rising, boards, member}
-use Rattle.entry.specs.Bodies.{ItemBody, EntryBody, PairBody, SealedBody, entry_bytes, sealed_bytes}
+use Rattle.record.specs.Rules.{Spot, spots, above, rising, member}
+use Rattle.entry.specs.Bodies.{ItemBody, PairBody, SealedBody, entry_bytes, sealed_bytes}
 use Rattle.ruled.specs.Ruled.{Ruled, numeral, text, end, free, follow, plain, scan_by}
 use Rattle.proof.specs.Bodies.{ProofBody, range, item_fields, pair_fields}
 

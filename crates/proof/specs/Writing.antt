@@ -1,5 +1,5 @@
 -- What a proof's writer answers, from the record that it is to write.
-use Rattle.std.specs.Prelude.{◌≡◌, ℕ, zero, suc, ◌+◌, ◌-◌, ◌≤◌, Bool, true, ◌&&◌, List, [], ◌∷◌, ◌++◌, map, length, take, Some, None, Ok, Err, Option, Result, ◌==◌, nat_le}
+use Rattle.std.specs.Prelude.{◌≡◌, ℕ, zero, suc, ◌+◌, ◌-◌, ◌≤◌, ◌&&◌, List, [], ◌∷◌, map, length, take, Some, None, Ok, Err, Option, Result, ◌==◌, nat_le}
 use Rattle.std.specs.List.{AllByRecursion}
 use Rattle.fault.specs.declared.Fault.{Fault}
 use Rattle.fault.specs.declared.Layer.TheVariants.{Proof}
@@ -11,7 +11,7 @@ use Rattle.record.specs.Formats.{is, up_to, within}
 use Rattle.record.specs.Writing.{room_for, filled}
 use Rattle.entry.specs.Bodies.{SealedBody, sealed_body}
 use Rattle.entry.specs.declared.parts.SealedEntry.{SealedEntry}
-use Rattle.proof.specs.Bodies.{ProofBody, ProofIn, proof_bytes, range}
+use Rattle.proof.specs.Bodies.{ProofBody, proof_bytes, range}
 use Rattle.proof.specs.Rules.{numbered, item_number, pair_number, entries_at, proof_of}
 use Rattle.proof.specs.Promises.{ProofKept}
 

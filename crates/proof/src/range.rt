@@ -4,8 +4,8 @@ ghost use Rattle.proof.specs.Bodies.{range as ranged};
 ghost use Rattle.proof.specs.Ends.{range_of};
 
 use crate::kind::malformed;
-use octets::number_at;
 use fault::Fault;
+use octets::number_at;
 
 #[derive(Clone, Copy)]
 pub(crate) struct Range {

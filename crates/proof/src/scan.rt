@@ -4,8 +4,8 @@ ghost use Rattle.proof.specs.Ends.{count_of, end_of, records_to};
 ghost use Rattle.proof.specs.Rules.{entries_from, sealed_from};
 
 use crate::kind::{Kind, check_number, items, malformed, pairs};
-use octets::number_at;
 use fault::Fault;
+use octets::number_at;
 
 // Judges the records that stand one behind the other, and answers where they end.
 pub(crate) fn read_records(

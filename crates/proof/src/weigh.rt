@@ -7,9 +7,9 @@ ghost use Rattle.proof.specs.Writing.{drafted, weigh_entries, weigh_proof, weigh
 
 use crate::kind::{Kind, check_number, items, malformed, pairs};
 use crate::range::is_range;
-use octets::LIMIT;
 use entry::parts::{ItemDigest, Pair, SealedEntry};
 use fault::Fault;
+use octets::LIMIT;
 
 // A record that carries a number.
 pub(crate) trait Keyed: Copy {

@@ -1,5 +1,6 @@
 // Readings: what a board holds under some items, read in place and written into a caller's buffer.
 #![tactic(auto)]
+
 ghost use Rattle.std.specs.Prelude.{◌≡◌, IfOk};
 ghost use Rattle.record.specs.Refusals.{InRange};
 ghost use Rattle.reading.specs.Bodies.{ReadingBody, ReadingReads, reading_of, reading_format};
@@ -13,8 +14,8 @@ pub mod plan;
 
 use crate::mark::VALUE_AT;
 use crate::plan::{Plan, check_order, lay_out};
-use octets::part;
 use fault::Fault;
+use octets::part;
 
 // A reading as it stands in its frame: its list of items is a part of the frame.
 #[derive(Clone, Copy)]

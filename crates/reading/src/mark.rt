@@ -3,8 +3,8 @@ ghost use Rattle.std.specs.Prelude.{◌≡◌};
 ghost use Rattle.reading.specs.Marks.{read_item_ends, read_item_number, read_item_place, read_item_stands};
 ghost use Rattle.std.proofs.Common.{rules};
 
-use octets::{WIDTH, number_at};
 use fault::Fault;
+use octets::{WIDTH, number_at};
 use record::{Numbered, Record, malformed};
 
 // Counted from an item's first byte: where its length stands, and where its value begins.

@@ -3,8 +3,8 @@ ghost use Rattle.std.specs.Prelude.{◌≡◌};
 ghost use Rattle.reading.specs.Drafts.{read_item_bytes, read_item_judged, read_item_ready};
 
 use crate::mark::{ItemAt, LENGTH_AT, VALUE_AT};
-use octets::LIMIT;
 use fault::Fault;
+use octets::LIMIT;
 use record::malformed;
 use record::piece::{Part, Piece};
 

@@ -1,18 +1,9 @@
 -- Records and the fields of their frames.
-use Rattle.std.proofs.Common.{◌≡◌, ℕ, zero, suc, ◌+◌, ◌≤◌, Bool, true, false, leb, List, [], ◌∷◌, ◌++◌, length, Ok, Err, Result, sym, refl, ap, ◌∙◌, subst, arith}
+use Rattle.std.proofs.Common.{◌≡◌, ℕ, zero, suc, ◌≤◌, true, List, [], ◌∷◌, ◌++◌, length, sym, refl, ap, ◌∙◌, subst, arith}
 use Rattle.std.specs.List.{flat_map, AllByRecursion}
-use Rattle.std.proofs.lemmas.List.{append_assoc, append-nil, length-append}
-use Rattle.std.proofs.lemmas.Bool.{leb-true}
-use Rattle.fault.specs.declared.Fault.{Fault}
-use Rattle.fault.specs.declared.Layer.{Layer}
-use Rattle.fault.specs.declared.Cause.TheVariants.{Malformed}
-use Rattle.fault.specs.Codes.{fault}
-use Rattle.octets.specs.Numbers.{Bytes, limit, be}
-use Rattle.octets.proofs.NumberLaws.{length-be}
-use Rattle.record.specs.Chains.{unless}
-use Rattle.record.specs.Formats.{Format, number, string, done, ◌>>=◌, repeat, Field, num, str, field_bytes, written, Fields}
-use Rattle.record.specs.Writing.{judge}
-use Rattle.record.proofs.Steps.{passed}
+use Rattle.std.proofs.lemmas.List.{append-nil}
+use Rattle.octets.specs.Numbers.{Bytes, limit}
+use Rattle.record.specs.Formats.{Format, number, string, done, ◌>>=◌, repeat, Field, num, str, Fields}
 
 -- a frame's fields one by one: the value and its range, then the fields behind it
 abbrev pub Opened : {A : Type 0} → Format A → List Field → A → Type 0

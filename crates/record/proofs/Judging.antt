@@ -1,5 +1,5 @@
 -- Fields that are to be written, judged from the front, and read where they are written.
-use Rattle.std.proofs.Common.{◌≡◌, ℕ, zero, suc, ◌+◌, ◌≤◌, Bool, true, false, leb, List, [], ◌∷◌, ◌++◌, length, Ok, Err, Result, sym, refl, ap, ◌∙◌, subst, arith}
+use Rattle.std.proofs.Common.{◌≡◌, ℕ, zero, suc, ◌+◌, ◌≤◌, Bool, true, false, leb, List, [], ◌∷◌, ◌++◌, length, Ok, Result, sym, refl, ap, ◌∙◌, subst, arith}
 use Rattle.std.specs.List.{flat_map, AllByRecursion}
 use Rattle.std.proofs.lemmas.List.{append_assoc, append-nil, length-append}
 use Rattle.std.proofs.lemmas.Bool.{leb-true, le-leb}
@@ -10,12 +10,11 @@ use Rattle.fault.specs.Codes.{fault}
 use Rattle.octets.specs.Numbers.{Bytes, limit, be, number_at}
 use Rattle.octets.specs.Parts.{part_at}
 use Rattle.octets.proofs.NumberLaws.{length-be, number-found}
-use Rattle.record.specs.Chains.{unless, after, and_then, guards}
-use Rattle.record.specs.Formats.{Format, number, string, done, ◌>>=◌, repeat, Field, num, str, field_bytes, written, Fields, walk, closing, read_by}
-use Rattle.record.specs.Writing.{judge, room_for, write_by, Fitting}
+use Rattle.record.specs.Chains.{unless}
+use Rattle.record.specs.Formats.{Format, number, string, done, ◌>>=◌, repeat, Field, num, str, written, Fields, walk}
+use Rattle.record.specs.Writing.{judge, Fitting}
 use Rattle.record.proofs.Steps.{passed, pass}
 use Rattle.record.proofs.Walks.{number_step, number_bad, string-step, part_there, fronted, moved, room}
-use Rattle.record.proofs.Rules.{walk_then}
 
 -- each string is of bytes
 abbrev pub Strings : List Field → Type 0

@@ -1,5 +1,5 @@
 -- The promises of readers and writers, kept for every coding of records as fields.
-use Rattle.std.proofs.Common.{◌≡◌, ℕ, ◌+◌, ◌≤◌, Bool, true, false, leb, ◌⊎◌, List, [], ◌∷◌, ◌++◌, length, take, drop, Ok, Err, Result, sym, refl, ap, ◌∙◌, subst, inl, inr, arith}
+use Rattle.std.proofs.Common.{◌≡◌, ℕ, ◌+◌, ◌≤◌, Bool, leb, List, [], ◌∷◌, ◌++◌, length, take, drop, Ok, Result, sym, refl, ap, ◌∙◌, subst, inl, inr, arith}
 use Rattle.std.proofs.lemmas.List.{append-nil, take_at}
 use Rattle.std.proofs.lemmas.Bool.{le-leb, leb-true}
 use Rattle.fault.specs.declared.Fault.{Fault}
@@ -10,7 +10,7 @@ use Rattle.fault.specs.Codes.{fault}
 use Rattle.octets.specs.Numbers.{Bytes}
 use Rattle.record.specs.Chains.{unless, after, and_then, guards}
 use Rattle.record.specs.Formats.{Format, Field, written, Fields, walk, closing, read_by}
-use Rattle.record.specs.Refusals.{InRange, Says, Judged}
+use Rattle.record.specs.Refusals.{Judged}
 use Rattle.record.specs.Writing.{judge, room_for, write_by, filled, Fitting}
 use Rattle.record.specs.Promises.{Reads, Writes}
 use Rattle.record.proofs.Steps.{never, passed, pass, same_ok}

@@ -1,17 +1,17 @@
 -- A kind of record: its format, and the marks of where such records stand. A run of marks is a walk over as many records.
-use Rattle.std.proofs.Common.{◌≡◌, ℕ, zero, suc, ◌+◌, ◌≤◌, Bool, true, false, ◌⊎◌, List, [], ◌∷◌, ◌++◌, map, length, drop, Ok, Err, Result, sym, refl, ap, ◌∙◌, subst, inl, inr, arith}
+use Rattle.std.proofs.Common.{◌≡◌, ℕ, zero, suc, ◌+◌, ◌≤◌, List, [], ◌∷◌, ◌++◌, map, length, drop, Ok, Err, Result, sym, refl, ap, ◌∙◌, subst, inl, inr, arith}
 use Rattle.std.specs.List.{flat_map, AllByRecursion}
-use Rattle.std.proofs.lemmas.List.{append-nil, length-append}
+use Rattle.std.proofs.lemmas.List.{length-append}
 use Rattle.fault.specs.declared.Fault.{Fault}
 use Rattle.fault.specs.declared.Layer.{Layer}
 use Rattle.octets.specs.Numbers.{Bytes}
 use Rattle.record.specs.Chains.{and_then}
-use Rattle.record.specs.Formats.{Format, done, ◌>>=◌, repeat, Field, Fields, written, walk}
-use Rattle.record.specs.Rules.{Spot, spots}
+use Rattle.record.specs.Formats.{Format, done, ◌>>=◌, repeat, Field, written, walk}
+use Rattle.record.specs.Rules.{spots}
 use Rattle.record.specs.Runs.{Run, run, behind, spotted}
 use Rattle.record.proofs.Steps.{never, same_ok, then_some}
 use Rattle.record.proofs.Paths.{written-append}
-use Rattle.record.proofs.Walks.{outcome, Held, Bad, Cut}
+use Rattle.record.proofs.Walks.{outcome}
 use Rattle.record.proofs.Rules.{walk_then, walk_bind}
 use Rattle.record.proofs.Codings.{Coding}
 
@@ -150,7 +150,7 @@ module _ {B R : Type 0} (k : Kind B R) (bs : List ℕ) where
         subst (Ran number place item 0 at) z (record { count = refl; places = refl; numbers = refl; to = omega arith; inside = h; range = tt })
     ran (suc n) at p h e =
         let m = one_more all n at p h e in
-        let s = m.stood-there in
+        let s = m.stood_there in
         let t = k.stops bs at m.holds m.end s.is in
         let r = ran n m.end m.rest s.inside m.run_on in
         let x = here m.holds at m.end in
@@ -175,5 +175,5 @@ module _ {B R : Type 0} (k : Kind B R) (bs : List ℕ) where
   each all P c zero at p h e = subst (λ q. AllByRecursion P q.0) (same_ok ([], at) p e) tt
   each all P c (suc n) at p h e =
       let m = one_more all n at p h e in
-      let s = m.stood-there in
+      let s = m.stood_there in
       subst (λ q. AllByRecursion P q.0) m.is (c at m.holds m.end s, each all P c n m.end m.rest s.inside m.run_on)

@@ -1,5 +1,5 @@
 -- The tables of rules 2 and 4 say what the rules say.
-use Rattle.std.proofs.Common.{◌≡◌, ℕ, zero, suc, ◌<◌, ◌≤◌, Bool, true, false, ◌||◌, eqb, ltb, ◌⊎◌, List, [], ◌∷◌, length, get_or, Some, None, Ok, Err, Result, sym, refl, ap, ◌∙◌, subst, inl, inr, arith}
+use Rattle.std.proofs.Common.{◌≡◌, ℕ, zero, suc, ◌<◌, Bool, true, false, eqb, ltb, List, [], ◌∷◌, Some, None, Ok, Err, Result, refl, inl, inr, arith}
 use Rattle.std.proofs.lemmas.Bool.{ltb-true, ltb-false, eqb-true, eqb-false, or_cases, or_parts}
 use Rattle.fault.specs.declared.Fault.{Fault}
 use Rattle.fault.specs.declared.Layer.{Layer}
@@ -7,7 +7,7 @@ use Rattle.fault.specs.declared.Cause.TheVariants.{NotRising, Unread}
 use Rattle.fault.specs.Codes.{fault}
 use Rattle.record.specs.Chains.{unless, tested}
 use Rattle.record.specs.Rules.{Spot, rising, among, covered}
-use Rattle.record.specs.Orders.{spot_at, Rises, FirstFall, RisingSays, Known, Covers, FirstUnread, CoveredSays}
+use Rattle.record.specs.Orders.{spot_at, Rises, RisingSays, Known, Covers, CoveredSays}
 
 module _ (l : Layer) where
   -- one record more in front, below the next

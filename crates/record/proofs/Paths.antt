@@ -1,7 +1,7 @@
 -- Along a format: what is left of it behind some fields.
-use Rattle.std.proofs.Common.{◌≡◌, ℕ, zero, suc, ◌+◌, ◌-◌, ◌*◌, ◌^◌, ◌<◌, ◌≤◌, Bool, true, false, List, [], ◌∷◌, ◌++◌, length, get_or, replicate, sym, refl, ap, ◌∙◌, subst, arith}
-use Rattle.std.proofs.lemmas.List.{append_assoc, append-nil, length-append, length-replicate}
-use Rattle.octets.specs.Numbers.{Bytes, limit, be}
+use Rattle.std.proofs.Common.{◌≡◌, ℕ, zero, suc, ◌≤◌, true, List, [], ◌∷◌, ◌++◌, length, replicate, sym, refl, ap, ◌∙◌, subst, arith}
+use Rattle.std.proofs.lemmas.List.{append_assoc, length-replicate}
+use Rattle.octets.specs.Numbers.{Bytes, limit}
 use Rattle.record.specs.Formats.{Format, number, string, done, ◌>>=◌, repeat, Field, num, str, field_bytes, written, Fields}
 
 -- behind the fields ds of a frame in range, the format g is left

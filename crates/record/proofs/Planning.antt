@@ -1,5 +1,5 @@
 -- Records that are to be written one behind the other: what the judge says of them, and the marks that a reader finds.
-use Rattle.std.proofs.Common.{◌≡◌, ℕ, zero, suc, ◌+◌, ◌≤◌, Bool, true, false, leb, List, [], ◌∷◌, ◌++◌, map, length, Ok, Err, Result, sym, refl, ap, ◌∙◌, subst, arith}
+use Rattle.std.proofs.Common.{◌≡◌, ℕ, suc, ◌+◌, Bool, true, false, leb, List, [], ◌∷◌, ◌++◌, map, length, Ok, Err, Result, sym, refl, ap, ◌∙◌, subst, arith}
 use Rattle.std.specs.List.{flat_map, AllByRecursion}
 use Rattle.std.proofs.lemmas.List.{append_assoc, append-nil, length-append}
 use Rattle.std.proofs.lemmas.Bool.{leb-true}
@@ -11,7 +11,7 @@ use Rattle.octets.specs.Numbers.{limit, be}
 use Rattle.octets.proofs.NumberLaws.{length-be}
 use Rattle.record.specs.Chains.{unless, after, and_then}
 use Rattle.record.specs.Formats.{Format, number, string, done, ◌>>=◌, repeat, Field, num, str, written}
-use Rattle.record.specs.Rules.{Spot, spots}
+use Rattle.record.specs.Rules.{spots}
 use Rattle.record.specs.Runs.{Run, behind, spotted, planned_run}
 use Rattle.record.specs.Writing.{judge}
 use Rattle.record.proofs.Steps.{never, same_ok, then_some}

@@ -1,6 +1,6 @@
 -- What a walk answers is what rule 1 says, and rule 1 says one thing only.
-use Rattle.std.proofs.Common.{◌≡◌, ℕ, zero, suc, ◌+◌, ◌-◌, ◌<◌, ◌≤◌, Bool, true, false, leb, ◌⊎◌, List, [], ◌∷◌, ◌++◌, length, take, drop, Ok, Err, Result, sym, refl, ap, ◌∙◌, subst, inl, inr, arith}
-use Rattle.std.proofs.lemmas.List.{append_assoc, append-nil, length-append, length-drop, drop_all}
+use Rattle.std.proofs.Common.{◌≡◌, ℕ, ◌+◌, ◌<◌, ◌≤◌, Bool, true, false, leb, ◌⊎◌, List, [], ◌∷◌, ◌++◌, length, drop, Ok, Err, Result, sym, refl, ap, ◌∙◌, subst, inl, inr, arith}
+use Rattle.std.proofs.lemmas.List.{append-nil, length-append, length-drop, drop_all}
 use Rattle.std.proofs.lemmas.Bool.{le-leb, lt-leb, cases_lt}
 use Rattle.fault.specs.declared.Fault.{Fault}
 use Rattle.fault.specs.declared.Layer.{Layer}
@@ -8,9 +8,8 @@ use Rattle.fault.specs.declared.Cause.TheVariants.{Malformed}
 use Rattle.fault.specs.Codes.{fault}
 use Rattle.octets.specs.Numbers.{Bytes, limit, be, number_at}
 use Rattle.octets.proofs.NumberLaws.{length-be, number-found}
-use Rattle.record.specs.Chains.{unless}
-use Rattle.record.specs.Formats.{Format, number, string, done, Field, num, str, field_bytes, written, Fields, walk, closing, no_rules, read_by, formed}
-use Rattle.record.specs.Refusals.{InRange, OutOfRange, TooShort, TooLong, Says}
+use Rattle.record.specs.Formats.{Format, number, string, done, Field, num, str, field_bytes, written, Fields, walk, closing, no_rules, formed}
+use Rattle.record.specs.Refusals.{OutOfRange, TooShort, TooLong, Says}
 use Rattle.record.proofs.Steps.{never, pass, refuse}
 use Rattle.record.proofs.Paths.{Along, Live, written-append, along-frame, along_live, frame-behind, completed}
 use Rattle.record.proofs.Walks.{first, Held, Bad, Cut, outcome, walk-along, walk-frame, number_bad, number_cut, string-cut}

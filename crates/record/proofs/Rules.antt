@@ -1,5 +1,5 @@
 -- Rule 1 and then the other rules.
-use Rattle.std.proofs.Common.{◌≡◌, ℕ, ◌+◌, Bool, true, false, leb, ◌⊎◌, List, [], ◌∷◌, ◌++◌, length, Ok, Err, Result, sym, refl, ap, ◌∙◌, subst, inl, inr, arith}
+use Rattle.std.proofs.Common.{◌≡◌, ℕ, ◌+◌, Bool, true, false, leb, List, [], ◌∷◌, ◌++◌, length, Ok, Err, Result, sym, refl, ap, ◌∙◌, inl, inr, arith}
 use Rattle.fault.specs.declared.Fault.{Fault}
 use Rattle.fault.specs.declared.Layer.{Layer}
 use Rattle.fault.specs.declared.Cause.TheVariants.{Malformed}
@@ -8,7 +8,7 @@ use Rattle.octets.specs.Numbers.{Bytes, number_at}
 use Rattle.octets.specs.Parts.{part_at}
 use Rattle.record.specs.Chains.{unless, after, and_then, guards}
 use Rattle.record.specs.Formats.{Format, number, string, done, ◌>>=◌, walk, closing, no_rules, read_by, formed}
-use Rattle.record.specs.Refusals.{InRange, Says, Judged}
+use Rattle.record.specs.Refusals.{Says, Judged}
 use Rattle.record.proofs.Steps.{passed, then_ok, then_err}
 use Rattle.record.proofs.Paths.{Live}
 use Rattle.record.proofs.Rule1.{says, only}

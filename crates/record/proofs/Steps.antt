@@ -1,5 +1,5 @@
 -- Chains of checks, one step at a time.
-use Rattle.std.proofs.Common.{◌≡◌, ℕ, Bool, true, false, cond, Ok, Err, Result, sym, refl, ap, ◌∙◌, arith}
+use Rattle.std.proofs.Common.{◌≡◌, ℕ, Bool, true, false, Ok, Err, Result, refl, ap, arith}
 use Rattle.fault.specs.declared.Fault.{Fault}
 use Rattle.record.specs.Chains.{unless, after, and_then}
 

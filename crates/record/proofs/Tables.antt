@@ -1,5 +1,5 @@
 -- One turn of the loops that go through a table of tests, and their ends.
-use Rattle.std.proofs.Common.{◌≡◌, ℕ, ◌+◌, ◌<◌, ◌≤◌, Bool, true, false, ◌||◌, eqb, List, [], ◌∷◌, ◌++◌, map, length, get_or, drop, Some, None, Ok, Err, Option, Result, sym, refl, ap, ◌∙◌}
+use Rattle.std.proofs.Common.{◌≡◌, ℕ, ◌+◌, ◌<◌, ◌≤◌, true, false, ◌||◌, eqb, List, map, length, get_or, drop, Some, Ok, Err, Option, Result, sym, ap, ◌∙◌}
 use Rattle.std.proofs.lemmas.List.{at_drop_more, at_drop_all}
 use Rattle.std.proofs.lemmas.Bool.{eq-eqb, ne_eqb}
 use Rattle.fault.specs.declared.Fault.{Fault}
@@ -7,7 +7,7 @@ use Rattle.fault.specs.declared.Layer.{Layer}
 use Rattle.fault.specs.declared.Cause.TheVariants.{NotRising, Unread}
 use Rattle.fault.specs.Codes.{fault}
 use Rattle.record.specs.Chains.{unless, tested}
-use Rattle.record.specs.Rules.{Spot, above, rising, among, covered}
+use Rattle.record.specs.Rules.{above, rising, among, covered}
 use Rattle.record.specs.Runs.{spotted}
 
 module _ {R : Type 0} (l : Layer) (number place : R → ℕ) (xs : List R) (i : ℕ) (last : Option ℕ) (x : R) (within : i < length xs) (is : x ≡ get_or xs i x) where

@@ -1,6 +1,6 @@
 -- A walk over bytes follows the fields that lie there.
-use Rattle.std.proofs.Common.{◌≡◌, ℕ, zero, suc, ◌+◌, ◌-◌, ◌<◌, ◌≤◌, Bool, true, false, leb, ◌⊎◌, List, [], ◌∷◌, ◌++◌, length, get_or, take, drop, Ok, Err, Result, sym, refl, ap, ◌∙◌, subst, inl, inr, arith}
-use Rattle.std.proofs.lemmas.List.{append_assoc, append-nil, length-append, length-drop, length-take, length-take-le, take-append-drop, drop-drop, drop_at, take_at, get_or-drop, get_or-take, get_or_past}
+use Rattle.std.proofs.Common.{◌≡◌, ℕ, ◌+◌, ◌<◌, ◌≤◌, Bool, true, false, ◌⊎◌, List, [], ◌∷◌, ◌++◌, length, take, drop, Err, Result, sym, refl, ap, ◌∙◌, subst, inl, inr, arith}
+use Rattle.std.proofs.lemmas.List.{append_assoc, length-append, length-drop, length-take, length-take-le, take-append-drop, drop-drop, drop_at, take_at, get_or-drop, get_or-take, get_or_past}
 use Rattle.std.proofs.lemmas.Bool.{le-leb, lt-leb, cases_lt}
 use Rattle.fault.specs.declared.Fault.{Fault}
 use Rattle.fault.specs.declared.Layer.{Layer}
@@ -11,7 +11,7 @@ use Rattle.octets.specs.Parts.{part_at}
 use Rattle.octets.proofs.NumberLaws.{length-be, number-found, number-back, number-limit}
 use Rattle.record.specs.Chains.{unless}
 use Rattle.record.specs.Formats.{Format, number, string, done, Field, num, str, field_bytes, written, Fields, walk}
-use Rattle.record.proofs.Paths.{Along, along-none, frame-along}
+use Rattle.record.proofs.Paths.{Along, frame-along}
 
 module _ {A B : Type 0} (l : Layer) (k : A → ℕ → Result B Fault) (bs : List ℕ) (at : ℕ) where
   pub number_step : (w n : ℕ) (ok : ℕ → Bool) (next : ℕ → Format A) → at + w ≤ length bs → number_at bs at w ≡ n → ok n ≡ true → walk l (number w ok next) k bs at ≡ walk l (next n) k bs (at + w)

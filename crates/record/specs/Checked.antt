@@ -1,5 +1,5 @@
 -- Formats whose other rules are judged where they stand: a check looks at what was read so far, and the least place decides.
-use Rattle.std.specs.Prelude.{◌≡◌, ℕ, zero, suc, ◌+◌, ◌≤◌, Bool, List, [], ◌∷◌, ◌++◌, length, Ok, Err, Result, nat_le}
+use Rattle.std.specs.Prelude.{ℕ, ◌+◌, Bool, List, length, Ok, Result, nat_le}
 use Rattle.fault.specs.declared.Fault.{Fault}
 use Rattle.fault.specs.declared.Layer.{Layer}
 use Rattle.fault.specs.declared.Cause.TheVariants.{Malformed}
@@ -7,7 +7,7 @@ use Rattle.fault.specs.Codes.{fault}
 use Rattle.octets.specs.Numbers.{number_at}
 use Rattle.octets.specs.Parts.{part_at}
 use Rattle.record.specs.Chains.{unless, guards}
-use Rattle.record.specs.Formats.{Format, number, string, done, Field, Fields, written}
+use Rattle.record.specs.Formats.{Format, number, string, done}
 
 -- as a format, with checks between its fields; a check knows the place that it stands at
 pub data Checked (A : Type 0) : Type 0 where

@@ -1,5 +1,5 @@
 -- Records that stand one behind the other in a frame, as marks of where they stand.
-use Rattle.std.specs.Prelude.{ℕ, zero, suc, List, [], ◌∷◌, ◌++◌, map, Ok, Err, Result}
+use Rattle.std.specs.Prelude.{ℕ, zero, suc, List, [], ◌∷◌, ◌++◌, Ok, Err, Result}
 use Rattle.fault.specs.declared.Fault.{Fault}
 use Rattle.record.specs.Chains.{and_then}
 use Rattle.record.specs.Rules.{Spot}

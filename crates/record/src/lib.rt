@@ -1,5 +1,6 @@
 // What all frames share: records that stand one behind the other, the rules on their numbers, and pieces that are written one behind the other.
 #![tactic(auto)]
+
 ghost use Rattle.std.specs.Prelude.{◌≡◌, ℕ, ◌+◌, ◌*◌, ◌<◌, ◌≤◌, List, map, length, IfOk, None, Ok, Result};
 ghost use Rattle.fault.specs.Codes.{fault};
 ghost use Rattle.fault.specs.declared.Cause.TheVariants.{Malformed};

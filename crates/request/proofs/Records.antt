@@ -1,14 +1,13 @@
 -- Reads and writes, their fields and their marks.
-use Rattle.std.proofs.Common.{◌≡◌, ℕ, suc, ◌+◌, ◌-◌, ◌≤◌, true, leb, List, [], ◌∷◌, ◌++◌, length, get_or, take, drop, Ok, Err, Result, sym, refl, ap, ◌∙◌, subst, arith}
+use Rattle.std.proofs.Common.{◌≡◌, ℕ, ◌+◌, ◌-◌, List, ◌∷◌, length, get_or, Ok, sym, refl, ◌∙◌, subst, arith}
 use Rattle.std.proofs.lemmas.Bool.{le-leb, leb-true}
 use Rattle.std.proofs.lemmas.Bool.Decides.{nat_tests}
-use Rattle.fault.specs.declared.Fault.{Fault}
 use Rattle.fault.specs.declared.Layer.TheVariants.{Frame}
-use Rattle.octets.specs.Numbers.{Bytes, limit, number_at}
+use Rattle.octets.specs.Numbers.{number_at}
 use Rattle.octets.specs.Parts.{part_at}
-use Rattle.record.specs.Formats.{Field, num, str, Fields, walk, written}
+use Rattle.record.specs.Formats.{Field, num, str, Fields, walk}
 use Rattle.record.proofs.Paths.{Live}
-use Rattle.record.proofs.Codings.{Coding, opened}
+use Rattle.record.proofs.Codings.{opened}
 use Rattle.record.proofs.Judging.{Exact}
 use Rattle.record.proofs.Marking.{Kind, both}
 use Rattle.request.specs.declared.mark.ReadAt.{ReadAt}

@@ -1,14 +1,14 @@
 -- Requests and the fields of their frames.
-use Rattle.std.proofs.Common.{◌≡◌, ℕ, ◌+◌, ◌≤◌, true, leb, List, [], ◌∷◌, ◌++◌, length, sym, refl, ap, ◌∙◌, subst, arith}
+use Rattle.std.proofs.Common.{◌≡◌, ℕ, ◌≤◌, leb, List, [], ◌∷◌, ◌++◌, length, sym, refl, ap, ◌∙◌, subst, arith}
 use Rattle.std.specs.List.{flat_map, AllByRecursion}
 use Rattle.std.proofs.lemmas.Bool.{le-leb, leb-true, and_parts, and_from, eqb-true}
-use Rattle.octets.specs.Numbers.{Bytes, limit}
-use Rattle.record.specs.Formats.{Format, string, done, ◌>>=◌, repeat, within, Field, num, str, Fields}
+use Rattle.octets.specs.Numbers.{limit}
+use Rattle.record.specs.Formats.{Format, string, done, ◌>>=◌, repeat, Field, num, str, Fields}
 use Rattle.record.proofs.Paths.{Live, live_bind, live_repeat}
 use Rattle.record.proofs.Codings.{Coding, opened, two, joins, repeated}
 use Rattle.record.proofs.Judging.{Exact, exact_bind, exact_repeat}
 use Rattle.request.specs.declared.plan.Head.{Head}
-use Rattle.request.specs.Bodies.{ReadBody, WriteBody, RequestBody, read_format, write_format, lists, request_format, read_fields, write_fields, request_fields, ReadIn, WriteIn, RequestIn}
+use Rattle.request.specs.Bodies.{ReadBody, WriteBody, RequestBody, read_format, write_format, request_format, read_fields, write_fields, request_fields, ReadIn, WriteIn, RequestIn}
 use Rattle.request.specs.Plans.{head_format}
 use Rattle.request.proofs.Records.{reads, writes, read_live, write_live, read_exact, write_exact}
 

@@ -1,15 +1,15 @@
 -- Lengths of requests, the part that a tag covers, and the rules in plain words.
-use Rattle.std.proofs.Common.{◌≡◌, ℕ, zero, suc, ◌+◌, ◌*◌, ◌≤◌, ◌⊎◌, List, [], ◌∷◌, ◌++◌, map, length, take, replicate, None, Ok, Err, Result, sym, refl, ap, ◌∙◌, subst, inl, inr, suc-mul, arith}
+use Rattle.std.proofs.Common.{◌≡◌, ℕ, ◌+◌, ◌*◌, ◌≤◌, List, [], ◌∷◌, ◌++◌, map, length, replicate, None, Ok, Err, Result, sym, refl, ap, ◌∙◌, subst, inl, inr, suc-mul, arith}
 use lib.ListN.{length-replicate}
 use Rattle.std.specs.List.{flat_map, AllByRecursion}
-use Rattle.std.proofs.lemmas.List.{append_assoc, append-nil, length-append, take_at}
+use Rattle.std.proofs.lemmas.List.{append_assoc, append-nil, length-append}
 use Rattle.std.proofs.lemmas.Nat.{mul-le}
 use Rattle.fault.specs.declared.Fault.{Fault}
 use Rattle.fault.specs.declared.Layer.TheVariants.{Frame}
 use Rattle.octets.specs.Numbers.{be}
 use Rattle.octets.proofs.NumberLaws.{length-be}
 use Rattle.record.specs.Chains.{after, guards, tested}
-use Rattle.record.specs.Formats.{Field, num, str, written}
+use Rattle.record.specs.Formats.{num, str, written}
 use Rattle.record.specs.Rules.{rising, covered}
 use Rattle.record.specs.Orders.{RisingSays, CoveredSays}
 use Rattle.record.proofs.Paths.{written-append}
@@ -17,7 +17,7 @@ use Rattle.record.proofs.Rules.{guards-after, guards-append}
 use Rattle.record.proofs.Ordering.{rising-says, covered-says}
 use Rattle.request.specs.Bodies.{ReadBody, WriteBody, RequestBody, read_fields, write_fields, request_fields, ReadIn, WriteIn, RequestIn, request_rules, read_spots, write_spots}
 use Rattle.request.specs.Orders.{items_read, Orderly}
-use Rattle.request.specs.Sizes.{size_of, RequestSize, SizesOccur, covered_fields, covered_part}
+use Rattle.request.specs.Sizes.{RequestSize, SizesOccur, covered_fields, covered_part}
 
 reads-long : (w : ℕ) (rs : List ReadBody) → AllByRecursion (ReadIn w) rs → length (written (flat_map (read_fields w) rs)) ≡ length rs * (w + 33)
 reads-long w [] h = omega arith

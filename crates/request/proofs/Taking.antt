@@ -1,6 +1,6 @@
 -- The reader's stages are what rule 1 and then the other rules answer.
 use Rattle.std.proofs.Common.{◌≡◌, ℕ, zero, suc, ◌+◌, ◌<◌, ◌≤◌, Bool, true, cond, ◌&&◌, ltb, leb, List, [], ◌∷◌, ◌++◌, map, length, get_or, take, Some, None, Ok, Err, Option, Result, sym, refl, ap, ◌∙◌, subst, inl, inr, arith}
-use Rattle.std.specs.List.{slice_get, flat_map, AllByRecursion}
+use Rattle.std.specs.List.{slice_get, AllByRecursion}
 use Rattle.std.proofs.lemmas.Option.{slice_get-get_or, slice_get_past}
 use Rattle.std.proofs.lemmas.List.{length-map, get_or-map, get_or-take}
 use Rattle.std.proofs.lemmas.Bool.{cases_lt, lt-ltb, le-ltb, le-leb, and_from}
@@ -10,18 +10,17 @@ use Rattle.fault.specs.declared.Layer.TheVariants.{Frame}
 use Rattle.fault.specs.declared.Cause.TheVariants.{Malformed}
 use Rattle.fault.specs.Codes.{fault}
 use Rattle.octets.specs.Numbers.{Bytes}
-use Rattle.octets.specs.Parts.{part_at}
 use Rattle.record.specs.Chains.{unless, after, and_then, guards, tested}
-use Rattle.record.specs.Formats.{Format, ◌>>=◌, repeat, walk, closing, no_rules, formed, written}
+use Rattle.record.specs.Formats.{repeat, walk, closing, no_rules, formed}
 use Rattle.record.specs.Rules.{Spot, spots, rising, covered}
 use Rattle.record.specs.Runs.{run, spotted}
-use Rattle.record.proofs.Steps.{same_ok, then_some, then_ok, then_err}
+use Rattle.record.proofs.Steps.{then_some, then_ok, then_err}
 use Rattle.record.proofs.Rules.{unless_then, walk_then, walk_bind, Fixed, walk_fixed, then_then, then_same, read_split, guards-after, guards-append}
-use Rattle.record.proofs.Marking.{run-walk, Ran, ran, Stood, each}
+use Rattle.record.proofs.Marking.{run-walk, ran, each}
 use Rattle.request.specs.declared.mark.ReadAt.{ReadAt}
 use Rattle.request.specs.declared.mark.WriteAt.{WriteAt}
 use Rattle.request.specs.declared.plan.Head.{Head}
-use Rattle.request.specs.Bodies.{ReadBody, WriteBody, RequestBody, read_format, write_format, request_format, read_fields, write_fields, request_rules, read_request, reads_at, writesAt, read_item, write_item, read_spots, write_spots}
+use Rattle.request.specs.Bodies.{RequestBody, read_format, write_format, request_format, write_fields, request_rules, read_request, reads_at, read_item, write_item, read_spots, write_spots}
 use Rattle.request.specs.Marks.{read_stands, read_ends, read_body, read_number, read_place, write_stands, write_ends, write_body, write_number, write_place}
 use Rattle.request.specs.Plans.{head_format, head_of, Marks, with_tag, with_writes, with_reads, laid, ordered, body_of}
 use Rattle.request.proofs.Records.{reads, writes}
@@ -54,7 +53,7 @@ module _ (w : ℕ) (bs : List ℕ) where
   tag_is : (h : Head) (p : List ReadAt × ℕ) (q : List WriteAt × ℕ) → walk Frame (behind-writes h (map (read_body w bs) p.0) (map (write_body bs) q.0)) last bs q.1 ≡ and_then (with_tag bs h p q) hold
   tag_is h p q =
       let e = q.1 in
-      let m : Marks = record { top = h; reads = p.0; writes = q.0; writes-at = p.1; tag_at = e } in
+      let m : Marks = record { top = h; reads = p.0; writes = q.0; writes_at = p.1; tag_at = e } in
       sym
       (unless_then (leb (e + 16) (length bs)) (fault Malformed Frame (length bs)) (unless (leb (length bs) (e + 16)) (fault Malformed Frame (e + 16)) (Ok m)) hold
       ∙ ap (unless (leb (e + 16) (length bs)) (fault Malformed Frame (length bs))) (unless_then (leb (length bs) (e + 16)) (fault Malformed Frame (e + 16)) (Ok m) hold))
@@ -91,10 +90,10 @@ module _ (w : ℕ) (bs : List ℕ) where
     pub head : head_of w bs ≡ Ok m.top
     pub reads-run : run (read_stands w) (read_ends w) bs m.top.reads (reads_at w) ≡ Ok p
     pub writes-run : run write_stands write_ends bs m.top.writes p.1 ≡ Ok q
-    pub is : record { top = m.top; reads = p.0; writes = q.0; writes-at = p.1; tag_at = q.1 } ≡ m
+    pub is : record { top = m.top; reads = p.0; writes = q.0; writes_at = p.1; tag_at = q.1 } ≡ m
     pub long : length bs ≡ m.tag_at + 16
 
-  tag_passed : (h : Head) (p : List ReadAt × ℕ) (q : List WriteAt × ℕ) (m : Marks) → with_tag bs h p q ≡ Ok m → (length bs ≡ q.1 + 16) × (record { top = h; reads = p.0; writes = q.0; writes-at = p.1; tag_at = q.1 } ≡ m)
+  tag_passed : (h : Head) (p : List ReadAt × ℕ) (q : List WriteAt × ℕ) (m : Marks) → with_tag bs h p q ≡ Ok m → (length bs ≡ q.1 + 16) × (record { top = h; reads = p.0; writes = q.0; writes_at = p.1; tag_at = q.1 } ≡ m)
   tag_passed h p q m e = (grind (arith, nat_tests), grind (arith, nat_tests))
 
   pub laid_out : (m : Marks) → laid w bs ≡ Ok m → LaidOut m
@@ -113,7 +112,7 @@ module _ (w : ℕ) (bs : List ℕ) where
   pub ordered-is : Bytes bs → (m : Marks) → LaidOut m → after (ordered m) (Ok (body_of w bs m)) ≡ guards (request_rules w (body_of w bs m)) (Ok (body_of w bs m))
   ordered-is all m o =
       subst (λ x. after (ordered x) (Ok (body_of w bs x)) ≡ guards (request_rules w (body_of w bs x)) (Ok (body_of w bs x))) o.is
-      (let x : Marks = record { top = m.top; reads = o.p.0; writes = o.q.0; writes-at = o.p.1; tag_at = o.q.1 } in
+      (let x : Marks = record { top = m.top; reads = o.p.0; writes = o.q.0; writes_at = o.p.1; tag_at = o.q.1 } in
       let b = body_of w bs x in
       let long = head_long m.top o.head in
       let r = ran (reads w) bs read_number read_place read_item (λ c at e. (refl, refl)) all m.top.reads (reads_at w) o.p long o.reads-run in

@@ -1,5 +1,5 @@
 -- How a request is laid out in its frame: its head, the marks of its reads and writes, and where its tag begins.
-use Rattle.std.specs.Prelude.{◌≡◌, ℕ, ◌+◌, ◌<◌, ◌≤◌, List, [], ◌∷◌, ◌++◌, map, length, take, None, Ok, Err, Result, nat_le}
+use Rattle.std.specs.Prelude.{ℕ, ◌+◌, List, map, length, take, None, Ok, Err, Result, nat_le}
 use Rattle.fault.specs.declared.Fault.{Fault}
 use Rattle.fault.specs.declared.Layer.TheVariants.{Frame}
 use Rattle.fault.specs.declared.Cause.TheVariants.{Malformed}
@@ -13,7 +13,7 @@ use Rattle.request.specs.declared.mark.ReadAt.{ReadAt}
 use Rattle.request.specs.declared.mark.WriteAt.{WriteAt}
 use Rattle.request.specs.declared.plan.Head.{Head}
 use Rattle.request.specs.declared.plan.Plan.{Plan}
-use Rattle.request.specs.Bodies.{RequestBody, lists, reads_at}
+use Rattle.request.specs.Bodies.{RequestBody, reads_at}
 use Rattle.request.specs.Marks.{read_number, read_place, read_ends, read_stands, read_body, write_number, write_place, write_ends, write_stands, write_body}
 
 -- 01, client, sequence number, counts

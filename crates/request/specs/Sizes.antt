@@ -1,5 +1,5 @@
 -- How long a request's frame is, and the part of it that its tag covers.
-use Rattle.std.specs.Prelude.{◌≡◌, ℕ, ◌+◌, ◌*◌, ◌≤◌, List, [], ◌∷◌, ◌++◌, length, Ok}
+use Rattle.std.specs.Prelude.{◌≡◌, ℕ, ◌+◌, ◌*◌, ◌≤◌, List, ◌∷◌, ◌++◌, length, Ok}
 use Rattle.std.specs.List.{flat_map, AllByRecursion}
 use Rattle.record.specs.Formats.{Field, num, written}
 use Rattle.request.specs.Bodies.{RequestBody, read_fields, write_fields, write_request}

@@ -11,8 +11,8 @@ ghost use Rattle.request.specs.Sizes.{KnownSizes, RequestSize, SizesOccur};
 use crate::item::{ReadItem, WriteItem};
 use crate::mark::{ReadAt, WriteAt};
 use crate::plan::{HEAD, Head, Plan, READS_AT, WRITES_AT, check_order, no_reads, no_writes};
-use octets::{LIMIT, put_bytes};
 use fault::{Cause, Fault, Layer};
+use octets::{LIMIT, put_bytes};
 use record::malformed;
 use record::piece::{plan_all, put_all};
 

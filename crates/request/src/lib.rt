@@ -1,5 +1,6 @@
 // Requests: a client's reads and writes under its tag, read in place and written into a caller's buffer.
 #![tactic(auto)]
+
 ghost use Rattle.std.specs.Prelude.{◌≡◌, ◌+◌, ◌≤◌, map, length, take, IfOk};
 ghost use Rattle.record.specs.Refusals.{InRange};
 ghost use Rattle.request.specs.Bodies.{RequestBody, RequestReads, read_request, request_format};
@@ -15,8 +16,8 @@ pub mod plan;
 
 use crate::mark::{DIGEST_AT, READ};
 use crate::plan::{HEAD, Plan, check_order, lay_out};
-use octets::part;
 use fault::Fault;
+use octets::part;
 
 // A request as it stands in its frame: its lists of records and its tag are parts of the frame.
 #[derive(Clone, Copy)]

@@ -3,8 +3,8 @@ ghost use Rattle.std.specs.Prelude.{◌≡◌};
 ghost use Rattle.request.specs.Marks.{read_ends, read_number, read_place, read_stands, write_ends, write_number, write_place, write_stands};
 ghost use Rattle.std.proofs.Common.{rules};
 
-use octets::{WIDTH, number_at};
 use fault::Fault;
+use octets::{WIDTH, number_at};
 use record::{Numbered, Record, malformed};
 
 // Counted from a read's first byte: where its digest begins, and where it ends.

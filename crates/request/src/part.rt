@@ -4,8 +4,8 @@ ghost use Rattle.request.specs.Drafts.{read_bytes, read_judged, read_ready, writ
 
 use crate::item::{ReadItem, WriteItem};
 use crate::mark::{DIGEST_AT, READ, ReadAt, WriteAt};
-use octets::LIMIT;
 use fault::Fault;
+use octets::LIMIT;
 use record::malformed;
 use record::piece::{Part, Piece};
 

@@ -3,8 +3,8 @@ ghost use Rattle.std.specs.Prelude.{◌≡◌, ◌+◌, ◌<◌, ◌≤◌, leng
 ghost use Rattle.request.specs.Plans.{head_of, laid, ordered, plan_seen, planned};
 
 use crate::mark::{ReadAt, WriteAt};
-use octets::{WIDTH, number_at};
 use fault::{Fault, Layer};
+use octets::{WIDTH, number_at};
 use record::{check_covered, check_rise, malformed, read_all};
 
 // Where the counts of reads and writes stand, and where the reads begin.

@@ -1,22 +1,21 @@
 -- Frames in range that begin with the same bytes as a string: where one breaks a rule, a scan of the string does not pass.
-use Rattle.std.proofs.Common.{◌≡◌, ℕ, zero, suc, ◌+◌, ◌-◌, ◌<◌, ◌≤◌, Bool, true, false, leb, ◌⊎◌, List, [], ◌∷◌, ◌++◌, length, take, drop, Ok, Err, Result, sym, refl, ap, ◌∙◌, subst, inl, inr, arith}
-use Rattle.std.specs.List.{AllByRecursion}
+use Rattle.std.proofs.Common.{◌≡◌, ℕ, ◌+◌, ◌≤◌, false, leb, ◌⊎◌, List, [], ◌∷◌, ◌++◌, length, drop, Err, Result, sym, refl, ap, ◌∙◌, subst, inl, inr, arith}
 use Rattle.std.proofs.lemmas.List.{append_assoc, length-append}
 use Rattle.std.proofs.lemmas.Bool.{leb-true}
 use Rattle.fault.specs.declared.Fault.{Fault}
 use Rattle.fault.specs.declared.Layer.{Layer}
 use Rattle.fault.specs.declared.Cause.TheVariants.{Malformed}
 use Rattle.fault.specs.Codes.{fault}
-use Rattle.octets.specs.Numbers.{Bytes, limit, be, number_at}
+use Rattle.octets.specs.Numbers.{Bytes, be, number_at}
 use Rattle.octets.specs.Parts.{part_at}
 use Rattle.octets.proofs.NumberLaws.{length-be, number-back, number-limit}
 use Rattle.record.specs.Chains.{unless, guards}
-use Rattle.record.specs.Formats.{Format, number, string, done, Field, num, str, written, Fields, walk}
+use Rattle.record.specs.Formats.{Field, num, str, written, Fields, walk}
 use Rattle.record.proofs.Steps.{pass, refuse}
 use Rattle.record.proofs.Paths.{Live, completed}
 use Rattle.record.proofs.Walks.{bytes_part, part_back, part_length}
 use Rattle.ruled.specs.Ruled.{Ruled, numeral, text, end, plain, rows, scan}
-use Rattle.ruled.specs.Standing.{Among, Passes, Before}
+use Rattle.ruled.specs.Standing.{Among}
 use Rattle.ruled.proofs.Tables.{neatly, neat_first, among-left, among_right, among_cases, cases_rows, guards_pass}
 use Rattle.ruled.proofs.Scans.{lies, number_lies, numeral-step, text-step}
 use Rattle.ruled.proofs.Least.{Tidy, spoken, by_bool, Sooner}

@@ -1,6 +1,5 @@
 -- What a scan answers is what the rules say, and they say one thing only.
-use Rattle.std.proofs.Common.{◌≡◌, ℕ, ◌+◌, ◌<◌, ◌≤◌, Bool, true, false, cond, eqb, leb, ◌⊎◌, List, [], ◌∷◌, ◌++◌, length, take, drop, Ok, Err, Result, sym, refl, ap, ◌∙◌, subst, inl, inr, arith}
-use Rattle.std.specs.List.{AllByRecursion}
+use Rattle.std.proofs.Common.{◌≡◌, ℕ, ◌+◌, ◌≤◌, false, cond, eqb, leb, List, [], ◌++◌, length, take, drop, Ok, Err, Result, sym, refl, ap, ◌∙◌, subst, inl, inr, arith}
 use Rattle.std.proofs.lemmas.List.{append-nil, length-append, length-take-le, take-append-drop, take_at}
 use Rattle.std.proofs.lemmas.Bool.{le-leb}
 use Rattle.fault.specs.declared.Cause.{Cause}
@@ -9,14 +8,13 @@ use Rattle.fault.specs.declared.Fault.{Fault}
 use Rattle.fault.specs.declared.Layer.{Layer}
 use Rattle.fault.specs.Codes.{fault, number}
 use Rattle.octets.specs.Numbers.{Bytes}
-use Rattle.record.specs.Chains.{unless, guards}
-use Rattle.record.specs.Formats.{Format, Field, written, Fields, walk, formed}
+use Rattle.record.specs.Formats.{written}
 use Rattle.record.specs.Refusals.{InRange, Says}
-use Rattle.record.proofs.Steps.{never, pass, refuse, same_ok}
+use Rattle.record.proofs.Steps.{never, pass, refuse}
 use Rattle.record.proofs.Paths.{Live}
 use Rattle.record.proofs.Rule1.{says, only}
-use Rattle.ruled.specs.Ruled.{Ruled, plain, rows, scan, ending, scan_by}
-use Rattle.ruled.specs.Standing.{Among, Passes, Before, Alike, Broken, Stands, Kept, Answered}
+use Rattle.ruled.specs.Ruled.{Ruled, plain, rows, ending, scan_by}
+use Rattle.ruled.specs.Standing.{Before, Alike, Broken, Stands, Kept, Answered}
 use Rattle.ruled.proofs.Tables.{guards_pass, guards_passed}
 use Rattle.ruled.proofs.Scans.{scan-frame, scan_walks}
 use Rattle.ruled.proofs.Least.{Tidy, spoken, by_bool, Sooner, beside_walk}

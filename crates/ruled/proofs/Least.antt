@@ -1,24 +1,18 @@
 -- A scan answers the fault at the least place.
-use Rattle.std.proofs.Common.{◌≡◌, ℕ, zero, suc, ◌+◌, ◌-◌, ◌<◌, ◌≤◌, Bool, true, false, leb, ◌⊎◌, List, [], ◌∷◌, ◌++◌, length, take, drop, Ok, Err, Result, sym, refl, ap, ◌∙◌, subst, inl, inr, arith}
-use Rattle.std.specs.List.{AllByRecursion}
-use Rattle.std.proofs.lemmas.List.{append_assoc, length-append}
+use Rattle.std.proofs.Common.{◌≡◌, ℕ, ◌+◌, ◌≤◌, Bool, true, false, leb, List, [], ◌∷◌, length, Err, Result, sym, refl, ap, ◌∙◌, subst, inl, inr, arith}
 use Rattle.std.proofs.lemmas.Bool.{leb-true}
 use Rattle.fault.specs.declared.Fault.{Fault}
 use Rattle.fault.specs.declared.Layer.{Layer}
 use Rattle.fault.specs.declared.Cause.TheVariants.{Malformed}
-use Rattle.fault.specs.Codes.{fault, number as causeNumber}
-use Rattle.octets.specs.Numbers.{Bytes, limit, be, number_at}
+use Rattle.fault.specs.Codes.{fault}
+use Rattle.octets.specs.Numbers.{number_at}
 use Rattle.octets.specs.Parts.{part_at}
-use Rattle.octets.proofs.NumberLaws.{length-be, number-back, number-limit}
 use Rattle.record.specs.Chains.{unless, guards}
-use Rattle.record.specs.Formats.{Format, number, string, done, Field, num, str, written, Fields, walk}
+use Rattle.record.specs.Formats.{Format, number, string, done, Field, num, str, walk}
 use Rattle.record.proofs.Steps.{pass, refuse}
-use Rattle.record.proofs.Paths.{Live, completed}
-use Rattle.record.proofs.Walks.{bytes_part, part_back, part_length}
 use Rattle.ruled.specs.Ruled.{Ruled, numeral, text, end, follow, plain, rows, scan}
-use Rattle.ruled.specs.Standing.{Among, Passes, Before}
-use Rattle.ruled.proofs.Tables.{Neat, neatly, neat_first, among-left, among_right, among_cases, cases_rows, guards_pass}
-use Rattle.ruled.proofs.Scans.{lies, number_lies, numeral-step, text-step}
+use Rattle.ruled.specs.Standing.{Among, Before}
+use Rattle.ruled.proofs.Tables.{Neat, neatly, among_cases, cases_rows, guards_pass}
 
 -- the rows on each number are neat
 abbrev pub Tidy : {A : Type 0} → Layer → Ruled A → Type 0

@@ -1,21 +1,19 @@
 -- Scans, field by field: along a frame in range, and beside a walk by rule 1 alone.
-use Rattle.std.proofs.Common.{◌≡◌, ℕ, zero, suc, ◌+◌, ◌-◌, ◌<◌, ◌≤◌, Bool, true, false, leb, ◌⊎◌, List, [], ◌∷◌, ◌++◌, length, take, drop, Ok, Err, Result, sym, refl, ap, ◌∙◌, subst, inl, inr, arith}
-use Rattle.std.specs.List.{AllByRecursion}
+use Rattle.std.proofs.Common.{◌≡◌, ℕ, ◌+◌, ◌≤◌, Bool, true, leb, List, [], ◌∷◌, ◌++◌, length, take, drop, Ok, Result, sym, refl, ap, ◌∙◌, subst, arith}
 use Rattle.std.proofs.lemmas.List.{append_assoc, length-append, length-drop, length-take-le, take-append-drop, drop-drop, drop_at, take_at}
-use Rattle.std.proofs.lemmas.Bool.{le-leb, lt-leb, leb-true, cases_lt, cases_Bool}
+use Rattle.std.proofs.lemmas.Bool.{le-leb}
 use Rattle.fault.specs.declared.Fault.{Fault}
 use Rattle.fault.specs.declared.Layer.{Layer}
 use Rattle.fault.specs.declared.Cause.TheVariants.{Malformed}
 use Rattle.fault.specs.Codes.{fault}
-use Rattle.octets.specs.Numbers.{Bytes, limit, be, number_at}
+use Rattle.octets.specs.Numbers.{limit, be, number_at}
 use Rattle.octets.specs.Parts.{part_at}
 use Rattle.octets.proofs.NumberLaws.{length-be, number-found}
 use Rattle.record.specs.Chains.{unless, and_then, guards}
-use Rattle.record.specs.Formats.{Format, number, string, done, ◌>>=◌, Field, num, str, field_bytes, written, Fields, walk}
-use Rattle.record.proofs.Steps.{passed, pass, refuse}
+use Rattle.record.specs.Formats.{number, string, ◌>>=◌, Field, num, str, written, Fields, walk}
+use Rattle.record.proofs.Steps.{passed, pass}
 use Rattle.record.proofs.Rules.{unless_then}
 use Rattle.ruled.specs.Ruled.{Ruled, numeral, text, end, follow, plain, rows, scan}
-use Rattle.ruled.specs.Standing.{Among, Passes}
 use Rattle.ruled.proofs.Tables.{guards-append, guards_passed}
 
 -- what lies at a place

@@ -1,11 +1,11 @@
 -- Which faults stand in a string of bytes, and which of them is answered.
-use Rattle.std.specs.Prelude.{◌≡◌, ℕ, ◌+◌, ◌<◌, ◌≤◌, Bool, true, false, ◌⊎◌, List, [], ◌∷◌, ◌++◌, length, take, Ok, Err, Result}
+use Rattle.std.specs.Prelude.{◌≡◌, ℕ, ◌+◌, ◌<◌, ◌≤◌, Bool, true, false, ◌⊎◌, List, [], ◌∷◌, length, take, Ok, Err, Result}
 use Rattle.std.specs.List.{AllByRecursion}
 use Rattle.fault.specs.declared.Fault.{Fault}
 use Rattle.fault.specs.declared.Layer.{Layer}
 use Rattle.fault.specs.Codes.{number}
-use Rattle.record.specs.Formats.{Format, Field, written, Fields}
-use Rattle.record.specs.Refusals.{InRange, Says}
+use Rattle.record.specs.Formats.{Field, written, Fields}
+use Rattle.record.specs.Refusals.{Says}
 use Rattle.ruled.specs.Ruled.{Ruled, plain, rows}
 
 -- an element of a list

@@ -1,6 +1,7 @@
 // Seals: who holds a signer's key can make a tag of a string, and can check that a tag is the signer's.
 // One interface with two implementations, by SipHash-2-4 and by HMAC-SHA-256.
 #![tactic(auto)]
+
 ghost use Rattle.std.specs.Prelude.{◌≡◌, ℕ, ◌<◌, ◌≤◌, min, List, ◌++◌, length, Decides, MatchResult};
 ghost use Rattle.fault.specs.Codes.{fault};
 ghost use Rattle.fault.specs.declared.Cause.TheVariants.{Malformed};

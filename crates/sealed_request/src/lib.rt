@@ -1,5 +1,6 @@
 // Requests that are sealed while they are written: the tag is made with the client's key.
 #![tactic(auto)]
+
 ghost use Rattle.std.specs.Prelude.{◌≡◌, length, IfOk};
 ghost use Rattle.request.specs.Bodies.{RequestWrites, write_request};
 ghost use Rattle.request.specs.Sizes.{RequestSize};

@@ -1,5 +1,5 @@
 -- Boards that agree, as a list of different boards.
-use Rattle.std.proofs.Common.{◌≡◌, ℕ, zero, suc, ◌+◌, ◌<◌, ◌≤◌, Bool, true, false, cond, not, ◌&&◌, eqb, leb, ◌⊎◌, List, [], ◌∷◌, length, take, sym, refl, ap, ◌∙◌, subst, inl, inr, zero-le, arith}
+use Rattle.std.proofs.Common.{◌≡◌, ℕ, zero, suc, ◌+◌, ◌<◌, ◌≤◌, Bool, true, false, cond, not, ◌&&◌, eqb, List, [], ◌∷◌, length, take, refl, ap, zero-le, arith}
 use Rattle.std.proofs.ByRecursion.{all-has, All-take, All-weaker}
 use Rattle.std.proofs.lemmas.List.{length-take-le}
 use Rattle.std.proofs.lemmas.Bool.{and_from, both_ways, cond_both, eq-eqb, le-leb, leb-true, ne_eqb, not_from_false}
@@ -11,7 +11,7 @@ use Rattle.session.specs.Replies.{agreed, agreeing, count_below, says, sent}
 use Rattle.session.specs.Sizes.{members}
 use Rattle.session.specs.Standing.{Formed}
 use Rattle.session.specs.declared.replies.Reply.{Reply}
-use Rattle.session.specs.declared.replies.Outcome.TheVariants.{Waiting, Decided}
+use Rattle.session.specs.declared.replies.Outcome.TheVariants.{Decided}
 use Rattle.session.proofs.Counting.{bit, count_witness, count_without}
 use Rattle.session.proofs.Sending.{has-any, sent-has}
 

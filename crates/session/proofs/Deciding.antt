@@ -1,17 +1,17 @@
 -- What a reply makes of a session.
-use Rattle.std.proofs.Common.{◌≡◌, ℕ, ◌+◌, ◌<◌, ◌≤◌, Bool, true, false, cond, ◌&&◌, ◌||◌, eqb, leb, ◌⊎◌, List, [], ◌∷◌, ◌++◌, is_some, Some, None, Ok, Err, Option, Result, sym, refl, ap, ◌∙◌, subst, inl, inr, arith}
-use Rattle.std.proofs.ByRecursion.{all-has, All-push, All-weaker}
-use Rattle.std.proofs.lemmas.Bool.{and_left, and_parts, both_ways, cases_Bool, cases_eq, cond-false, cond-true, eq-eqb, eqb-true, lt-leb, ne_eqb, not-false, or_from, or_left, or_right}
-use Rattle.std.specs.List.{ContainsAt as Has, AllByRecursion as All}
+use Rattle.std.proofs.Common.{◌≡◌, ℕ, ◌+◌, ◌<◌, ◌≤◌, Bool, true, false, cond, ◌&&◌, ◌||◌, eqb, leb, List, [], ◌∷◌, ◌++◌, is_some, Some, None, Ok, Err, Option, Result, sym, refl, ap, ◌∙◌, inl, inr, arith}
+use Rattle.std.proofs.ByRecursion.{All-push, All-weaker}
+use Rattle.std.proofs.lemmas.Bool.{and_left, both_ways, cases_Bool, cases_eq, cond-false, cond-true, eq-eqb, eqb-true, lt-leb, ne_eqb, not-false, or_from, or_left, or_right}
+use Rattle.std.specs.List.{AllByRecursion as All}
 use Rattle.fault.specs.Codes.{fault, verdict_byte}
-use Rattle.fault.specs.declared.Cause.TheVariants.{Malformed, NotMember, Settled}
+use Rattle.fault.specs.declared.Cause.TheVariants.{Settled}
 use Rattle.fault.specs.declared.Fault.{Fault}
 use Rattle.fault.specs.declared.Layer.TheVariants.{Session as ofSession}
 use Rattle.fault.specs.declared.Verdict.{Verdict}
 use Rattle.fault.specs.declared.Verdict.TheVariants.{Abort, Commit}
 use Rattle.session.specs.Answers.{answer, outcome}
-use Rattle.session.specs.Hearing.{Took, heard_of, hearers, is_version}
-use Rattle.session.specs.Replies.{agreed, agreeing, any_of, count_below, decided, malformed, replied, says, sent}
+use Rattle.session.specs.Hearing.{heard_of, hearers, is_version}
+use Rattle.session.specs.Replies.{agreed, agreeing, decided, malformed, replied, says, sent}
 use Rattle.session.specs.Sizes.{members}
 use Rattle.session.specs.Standing.{Formed, Hears, Stands, Takes, version_of}
 use Rattle.session.specs.declared.heard.Heard.{Heard}

@@ -1,15 +1,12 @@
 -- A session's answer to a reply, by what became of it.
-use Rattle.std.proofs.Common.{◌≡◌, ℕ, ◌+◌, ◌*◌, ◌<◌, ◌≤◌, true, false, ◌||◌, List, [], ◌∷◌, ◌++◌, Some, None, Ok, Err, Result, sym, refl, ap, ◌∙◌, subst, arith}
+use Rattle.std.proofs.Common.{◌≡◌, ℕ, ◌+◌, ◌*◌, ◌<◌, ◌≤◌, true, false, List, [], ◌∷◌, ◌++◌, Some, None, Ok, Err, sym, ap, ◌∙◌, subst, arith}
 use Rattle.std.proofs.lemmas.Bool.{cond-false, cond-true, le-leb, lt-leb}
 use Rattle.fault.specs.Codes.{fault}
 use Rattle.fault.specs.declared.Cause.TheVariants.{Settled}
-use Rattle.fault.specs.declared.Fault.{Fault}
 use Rattle.fault.specs.declared.Layer.TheVariants.{Session as ofSession}
 use Rattle.session.specs.Answers.{MeansWell, answer}
 use Rattle.session.specs.Replies.{agreed, agreeing, malformed}
-use Rattle.session.specs.Sizes.{members}
 use Rattle.session.specs.Standing.{Formed, Represents, Stands, Takes}
-use Rattle.session.specs.declared.replies.Outcome.{Outcome}
 use Rattle.session.specs.declared.replies.Outcome.TheVariants.{Waiting, Decided}
 use Rattle.session.specs.declared.replies.Reply.{Reply}
 use Rattle.session.specs.declared.state.Session.{Session}

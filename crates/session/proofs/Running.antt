@@ -1,5 +1,5 @@
 -- The laws of whole sequences of replies.
-use Rattle.std.proofs.Common.{◌≡◌, ℕ, suc, ◌+◌, ◌<◌, ◌≤◌, min, Bool, true, false, cond, ◌||◌, leb, List, [], ◌∷◌, ◌++◌, length, get_or, take, drop, set, Ok, Err, Result, sym, refl, ap, ◌∙◌, subst, arith}
+use Rattle.std.proofs.Common.{◌≡◌, ℕ, suc, ◌+◌, ◌<◌, min, true, false, ◌||◌, leb, List, [], ◌∷◌, ◌++◌, length, get_or, take, drop, set, Ok, Err, Result, sym, refl, ap, ◌∙◌, subst, arith}
 use Rattle.std.proofs.ByRecursion.{all-has, all_has_itself, All-push}
 use Rattle.std.proofs.lemmas.List.{append_assoc, drop_at, drop_more, length-take-le, set_at, take_at, take_more}
 use Rattle.std.proofs.lemmas.Bool.{both_ways, cond_both, or_left}

@@ -1,13 +1,13 @@
 -- What a list of replies says, and what one reply more adds.
-use Rattle.std.proofs.Common.{◌≡◌, ℕ, ◌+◌, ◌<◌, ◌≤◌, Bool, true, false, ◌&&◌, ◌||◌, eqb, leb, ◌⊎◌, List, [], ◌∷◌, ◌++◌, sym, refl, ap, ◌∙◌, subst, inl, inr, arith}
+use Rattle.std.proofs.Common.{◌≡◌, ℕ, ◌+◌, Bool, true, false, ◌&&◌, ◌||◌, eqb, List, [], ◌∷◌, ◌++◌, refl, ap, ◌∙◌, subst, inl, inr, arith}
 use Rattle.std.proofs.ByRecursion.{all-has, has_append_right, has_get_or}
-use Rattle.std.proofs.lemmas.Bool.{and_left, and_parts, both_ways, cases_Bool, eqb-true, leb-true, ne_eqb, or_cases, or_from, or_parts}
+use Rattle.std.proofs.lemmas.Bool.{and_parts, both_ways, cases_Bool, eqb-true, leb-true, or_cases, or_from, or_parts}
 use Rattle.std.specs.List.{ContainsAt as Has, AllByRecursion as All}
 use Rattle.fault.specs.Codes.{verdict_byte}
 use Rattle.fault.specs.declared.Verdict.{Verdict}
 use Rattle.fault.specs.declared.Verdict.TheVariants.{Abort, Commit}
 use Rattle.session.specs.Answers.{reply}
-use Rattle.session.specs.Replies.{agreed, agreeing, any_of, count_below, decided, replied, says, sent}
+use Rattle.session.specs.Replies.{agreed, agreeing, any_of, decided, says, sent}
 use Rattle.session.specs.Sizes.{members}
 use Rattle.session.specs.declared.replies.Reply.{Reply}
 use Rattle.session.proofs.Counting.{count-never, count_same, count_witness}

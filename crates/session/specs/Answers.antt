@@ -1,6 +1,6 @@
 -- What a session answers to a reply, and what that means.
-use Rattle.std.specs.Prelude.{◌≡◌, ℕ, ◌+◌, ◌<◌, ◌≤◌, Bool, true, false, cond, ◌||◌, List, [], ◌∷◌, ◌++◌, length, Ok, Err, Result, ◌≢◌, nat_le}
-use Rattle.std.specs.List.{ContainsAt as Has, AllByRecursion as All}
+use Rattle.std.specs.Prelude.{◌≡◌, ℕ, ◌+◌, ◌<◌, ◌≤◌, Bool, false, cond, ◌||◌, List, [], ◌∷◌, ◌++◌, length, Ok, Err, Result, ◌≢◌, nat_le}
+use Rattle.std.specs.List.{ContainsAt as Has, AllByRecursion}
 use Rattle.fault.specs.Codes.{fault}
 use Rattle.fault.specs.Tables.{Row, under, when}
 use Rattle.fault.specs.declared.Cause.TheVariants.{Malformed, NotMember, Settled}
@@ -42,7 +42,7 @@ Unchanged before after (Err why) = after ≡ before
 -- No board is in the list twice.
 abbrev pub Different : List ℕ → Type 0
 Different [] = Unit {0}
-Different (b ∷ bs) = All (λ c. (c ≢ b)) bs × Different bs
+Different (b ∷ bs) = AllByRecursion (λ c. (c ≢ b)) bs × Different bs
 
 -- a reply by its three parts
 abbrev pub reply : ℕ → Verdict → ℕ → Reply
@@ -50,7 +50,7 @@ reply b v k = record { board = b; verdict = v; version = k }
 
 -- There are f + 1 different boards whose replies agree in this verdict and this version.
 abbrev pub Agree : ℕ → List Reply → Verdict → ℕ → Type 0
-Agree f rs v k = (bs : List ℕ) × ((length bs ≡ f + 1) × Different bs × All (λ b. Has rs (reply b v k)) bs)
+Agree f rs v k = (bs : List ℕ) × ((length bs ≡ f + 1) × Different bs × AllByRecursion (λ b. Has rs (reply b v k)) bs)
 
 -- What an outcome means: decided where f + 1 different boards agree, waiting where none do.
 abbrev pub Means : ℕ → List Reply → Outcome → Type 0

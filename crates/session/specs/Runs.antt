@@ -1,6 +1,6 @@
 -- Whole sequences of replies.
-use Rattle.std.specs.Prelude.{◌≡◌, ℕ, ◌<◌, ◌≤◌, min, Bool, true, false, List, [], ◌∷◌, ◌++◌, length, take, drop, Ok, Err, Result}
-use Rattle.std.specs.List.{AllByRecursion as All}
+use Rattle.std.specs.Prelude.{◌≡◌, ℕ, min, List, [], ◌∷◌, length, take, drop, Ok, Err, Result}
+use Rattle.std.specs.List.{AllByRecursion}
 use Rattle.fault.specs.declared.Fault.{Fault}
 use Rattle.session.specs.Answers.{Honest, accepted, answer}
 use Rattle.session.specs.Standing.{Represents}
@@ -25,7 +25,7 @@ IsRefusal (Err why) = Unit {0}
 
 -- behind an answer that decides stand refusals only
 abbrev pub Closes : Result Outcome Fault → List (Result Outcome Fault) → Type 0
-Closes (Ok (Decided v k)) later = All IsRefusal later
+Closes (Ok (Decided v k)) later = AllByRecursion IsRefusal later
 Closes (Ok Waiting) later = Unit {0}
 Closes (Err why) later = Unit {0}
 
@@ -43,7 +43,7 @@ HonestIn f sent (Err why) = Unit {0}
 pub record Lawful (f : ℕ) (replies : List Reply) (answers : List (Result Outcome Fault)) : Type 0 where
   pub each : answers ≡ played f [] replies
   pub once : Once answers
-  pub honest : All (HonestIn f replies) answers
+  pub honest : AllByRecursion (HonestIn f replies) answers
 
 -- Replies were played to a new session as far as there was room for answers: these stand in front, what the buffer held stands behind.
 pub record Ran (f : ℕ) (replies : List Reply) (before after : List (Result Outcome Fault)) (s : Session) (n : ℕ) : Type 0 where

@@ -1,6 +1,6 @@
 -- How a session stands to the replies that it accepted.
-use Rattle.std.specs.Prelude.{◌≡◌, ℕ, ◌<◌, Bool, true, false, List, is_some, None, Option}
-use Rattle.std.specs.List.{AllByRecursion as All}
+use Rattle.std.specs.Prelude.{◌≡◌, ℕ, ◌<◌, true, false, List, is_some, None, Option}
+use Rattle.std.specs.List.{AllByRecursion}
 use Rattle.fault.specs.declared.Verdict.{Verdict}
 use Rattle.fault.specs.declared.Verdict.TheVariants.{Abort, Commit}
 use Rattle.session.specs.Hearing.{Took, heard_of, is_version}
@@ -28,7 +28,7 @@ Stands f rs (Decided v k) = agreed f rs v k ≡ true
 
 pub record Represents (s : Session) (f : ℕ) (rs : List Reply) : Type 0 where
   pub faults : s.size.f ≡ f
-  pub formed : All (Formed f) rs
+  pub formed : AllByRecursion (Formed f) rs
   pub stands : Stands f rs s.state
 
 -- the version that a reply stands for: an abort stands for 0

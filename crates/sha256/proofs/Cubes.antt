@@ -1,5 +1,5 @@
 -- The rule of the round constants, proved over the whole table by one computed test.
-use Rattle.std.proofs.Common.{◌≡◌, ℕ, zero, suc, ◌+◌, ◌*◌, ◌^◌, ◌<◌, ◌≤◌, Bool, true, false, cond, T, ltb, leb, List, [], ◌∷◌, length, get_or, sym, refl, subst, ltb→lt, leb→le}
+use Rattle.std.proofs.Common.{◌≡◌, ℕ, zero, suc, ◌+◌, ◌*◌, ◌^◌, ◌<◌, Bool, cond, T, ltb, leb, length, get_or, sym, refl, subst, ltb→lt, leb→le}
 use Rattle.sha256.specs.Constants.{constants, primes, CubeRoot}
 use Rattle.sha256.proofs.Table.{at, both, both_left, both_right}
 

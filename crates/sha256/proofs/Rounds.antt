@@ -1,5 +1,5 @@
 -- One turn of a loop over the rounds.
-use Rattle.std.proofs.Common.{◌≡◌, ℕ, suc, ◌+◌, ◌<◌, ◌≤◌, ◌≢◌, List, length, get_or, set, sym, refl, ap, ◌∙◌, add-one, arith, get_or-set_other, get_or-set_same, below_more}
+use Rattle.std.proofs.Common.{◌≡◌, ℕ, ◌+◌, ◌<◌, ◌≢◌, List, length, get_or, set, add-one, arith, get_or-set_other, get_or-set_same, below_more}
 use Rattle.sha256.specs.Block.{rounds, round}
 use Rattle.sha256.specs.Constants.{K}
 

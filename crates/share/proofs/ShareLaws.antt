@@ -1,10 +1,10 @@
 -- Shares and the fields of their frames.
-use Rattle.std.proofs.Common.{◌≡◌, ℕ, suc, ◌+◌, ◌-◌, ◌*◌, ◌^◌, ◌≤◌, true, leb, List, [], ◌∷◌, length, sym, refl, ap, ◌∙◌, subst, arith}
+use Rattle.std.proofs.Common.{◌≡◌, ℕ, suc, ◌*◌, ◌≤◌, leb, List, ◌∷◌, length, refl, ◌∙◌, subst, arith}
 use Rattle.std.proofs.lemmas.Bool.{le-leb, leb-true, and_parts, and_from, eqb-true}
 use Rattle.std.proofs.lemmas.Nat.{pow_pos}
-use Rattle.octets.specs.Numbers.{Bytes, limit}
+use Rattle.octets.specs.Numbers.{limit}
 use Rattle.octets.proofs.NumberLaws.{power_more}
-use Rattle.record.specs.Formats.{Format, number, string, done, is, any, within, Field, num, str, Fields}
+use Rattle.record.specs.Formats.{Field, num, str, Fields}
 use Rattle.record.proofs.Paths.{Live}
 use Rattle.record.proofs.Codings.{Coding, opened}
 use Rattle.record.proofs.Judging.{Exact}

@@ -3,7 +3,7 @@ use Rattle.std.specs.Prelude.{◌≡◌, ℕ, ◌≤◌, Bool, List, [], ◌∷�
 use Rattle.fault.specs.declared.Fault.{Fault}
 use Rattle.fault.specs.declared.Layer.TheVariants.{Frame}
 use Rattle.octets.specs.Numbers.{Bytes, limit}
-use Rattle.record.specs.Formats.{Format, number, string, done, is, any, within, Field, num, str, written, read_by}
+use Rattle.record.specs.Formats.{Format, number, string, done, is, any, within, Field, num, str, read_by}
 use Rattle.record.specs.Rules.{member}
 use Rattle.record.specs.Writing.{write_by}
 use Rattle.record.specs.Promises.{Reads, Writes}

@@ -1,21 +1,17 @@
 // Shares: a board's tag over the entry of a version, read in place and written into a caller's buffer.
 #![tactic(auto)]
+
 ghost use Rattle.std.specs.Prelude.{◌≡◌, length, IfOk};
 ghost use Rattle.record.specs.Formats.{written};
 ghost use Rattle.record.specs.Writing.{filled};
 ghost use Rattle.share.specs.Shares.{ShareReads, ShareWrites, drafted, held, read_share, seen, share_fields, write_share};
 
-use octets::{LIMIT, WIDTH, number_at, part};
 use fault::{Cause, Fault, Layer};
+use octets::{LIMIT, number_at, part};
 use record::malformed;
 
 // The first byte of a share's frame.
 pub const KIND: u8 = 2;
-
-// Where the tag stands, and how long the frame is.
-const TAG_AT: usize = WIDTH + 2;
-
-const SIZE: usize = TAG_AT + 16;
 
 // A share as it stands in its frame.
 #[derive(Clone, Copy)]
@@ -45,18 +41,18 @@ fn scan<'a>(bytes: &'a [u8], f: u8) -> Result<Share<'a>, Fault>
     if bytes[0] != KIND {
         return Err(malformed(0));
     }
-    if n < TAG_AT {
+    if n < 4 {
         return Err(malformed(n as u32));
     }
     let version = number_at(bytes, 2);
     if version == 0 {
         return Err(malformed(2));
     }
-    if n < SIZE {
+    if n < 20 {
         return Err(malformed(n as u32));
     }
-    if n > SIZE {
-        return Err(malformed(SIZE as u32));
+    if n > 20 {
+        return Err(malformed(20));
     }
     let signer = bytes[1];
     if signer as u32 >= 3 * f as u32 + 1 {
@@ -69,7 +65,7 @@ fn scan<'a>(bytes: &'a [u8], f: u8) -> Result<Share<'a>, Fault>
     Ok(Share {
         signer,
         version,
-        tag: part(bytes, TAG_AT, 16),
+        tag: part(bytes, 4, 16),
     })
 }
 
@@ -98,7 +94,7 @@ fn put(draft: ShareDraft, f: u8, out: &mut [u8]) -> Result<usize, Fault>
             place: 1,
         });
     }
-    if out.len() < SIZE {
+    if out.len() < 20 {
         return Err(Fault {
             cause: Cause::NoRoom,
             layer: Layer::Frame,
@@ -109,8 +105,8 @@ fn put(draft: ShareDraft, f: u8, out: &mut [u8]) -> Result<usize, Fault>
     out[1] = draft.signer;
     out[2] = (draft.version / 256) as u8;
     out[3] = (draft.version % 256) as u8;
-    out[TAG_AT..SIZE].copy_from_slice(&draft.tag);
-    Ok(SIZE)
+    out[4..20].copy_from_slice(&draft.tag);
+    Ok(20)
 }
 
 // Writes a share to the front of a buffer, and answers its length.

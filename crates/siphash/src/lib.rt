@@ -1,6 +1,7 @@
 // SipHash-2-4, the keyed hash of short strings by Aumasson and Bernstein.
 // The string comes in two parts, so that a label can stand before a frame without a copy of either.
 #![tactic(auto)]
+
 ghost use Rattle.std.specs.Prelude.{◌≡◌, ℕ, ◌+◌, ◌-◌, ◌*◌, ◌/◌, ◌%◌, ◌^◌, ◌<◌, ◌≤◌, List, ◌++◌, length};
 ghost use Rattle.siphash.specs.SipHash.{compressed, finalized, first_half, initialized, keyed, little, run, second_half, sip_hash24, sip_round, sip_rounds};
 

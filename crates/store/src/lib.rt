@@ -1,6 +1,7 @@
 // What a board keeps: a version, a value and a digest for each of 64 items.
 // `Store` is the interface that a board is built on, `Table` the plainest store that meets it.
 #![tactic(auto)]
+
 ghost use Rattle.std.specs.Prelude.{◌≡◌, ℕ, ◌<◌, ◌≢◌};
 ghost use Rattle.store.specs.Slot.{Slot, slot, blank};
 

@@ -1,5 +1,5 @@
 -- What a window holds for each version, and what its calls change.
-use Rattle.std.specs.Prelude.{◌≡◌, ℕ, ◌+◌, ◌%◌, ◌<◌, ◌≤◌, List, [], replicate, Some, None, Option, ◌≢◌, slice_index_or, refl}
+use Rattle.std.specs.Prelude.{◌≡◌, ℕ, ◌+◌, ◌%◌, ◌<◌, ◌≤◌, List, replicate, Some, None, Option, ◌≢◌, slice_index_or, refl}
 use Rattle.std.proofs.Common.{zero-le}
 use Rattle.entry.specs.declared.parts.Entry.{Entry}
 use Rattle.entry.specs.Bodies.{EntryBody, PairBody, entry_body}

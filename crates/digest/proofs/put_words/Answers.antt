@@ -1,4 +1,4 @@
-use Rattle.std.proofs.Common.{◌≡◌, ◌+◌, ◌*◌, ◌<◌, ◌≤◌, length, get_or, take, sym, refl, ap, ◌∙◌, subst, arith, rules}
+use Rattle.std.proofs.Common.{◌*◌, sym, refl, ap, ◌∙◌, arith, rules}
 use Rattle.std.proofs.lemmas.List.{take_all}
 use Rattle.digest.specs.Meaning.{written}
 use Rattle.digest.proofs.Words.{laid_more}
@@ -10,8 +10,8 @@ loop-i-init c = (c.requires, refl)
 pub loop-i-preserved : goal.loop-i-preserved
 loop-i-preserved c = (
   search rules,
-  laid_more c.loop-i.out c.args.words.now c.copy-from-slice.new.self c.loop-i.i _ (omega arith) (omega arith)
-      c.loop-i.invariant.1 (c.copy-from-slice.ensures.after ∙ c.to-be-bytes-word.ensures),
+  laid_more c.loop-i.out c.args.words.now c.copy_from_slice.new.self c.loop-i.i _ (omega arith) (omega arith)
+      c.loop-i.invariant.1 (c.copy_from_slice.ensures.after ∙ c.to_be_bytes-word.ensures),
 )
 
 pub returns : goal.returns

@@ -24,32 +24,32 @@ promise bs r all e = subst (ReadingReads 2 bs) (sym e) (reading Frame (reading_f
 order : (bs : List ℕ) (r : Result ReadingBody Fault) → r ≡ reading_of 2 bs → (b : ReadingBody) → InRange (reading_format 2) bs b → Orderly 2 b r
 order bs r e b h = subst (Orderly 2 b) (judged-only Frame (reading_format 2) (reading_rules 2) bs (guards (reading_rules 2 b) (Ok b)) (live 2) (inr (b, h, refl)) ∙ sym e) (orderly 2 b)
 
-pub returns-in-err-plan : goal.returns-in-err-plan
-returns-in-err-plan c =
-    let p = err_from_is_err_and c.from-residual.result c.from-residual.ensures.1 in
+pub returns-in_err-plan : goal.returns-in_err-plan
+returns-in_err-plan c =
+    let p = err_from_is_err_and c.from_residual.result c.from_residual.ensures.1 in
     let bs = c.args.bytes.now in
-    let all : Bytes bs = λ i. (c.type-inv.bytes i).fits in
-    let e = ap Err p.2 ∙ sym (refused_form 2 bs all _ (sym c.in-err-plan.ensures.answer)) in
+    let all : Bytes bs = λ i. (c.type_inv.bytes i).fits in
+    let e = ap Err p.2 ∙ sym (refused_form 2 bs all _ (sym c.in_err-plan.ensures.answer)) in
     rw p.1 (record { answer = e; promised = promise bs _ all e; found = tt; ordered = order bs _ e })
 
-pub returns-in-err-check-order : goal.returns-in-err-check-order
-returns-in-err-check-order c =
-    let p = err_from_is_err_and c.from-residual-in-err-check-order.result c.from-residual-in-err-check-order.ensures.1 in
+pub returns-in_err-check_order : goal.returns-in_err-check_order
+returns-in_err-check_order c =
+    let p = err_from_is_err_and c.from_residual-in_err-check_order.result c.from_residual-in_err-check_order.ensures.1 in
     let bs = c.args.bytes.now in
-    let all : Bytes bs = λ i. (c.type-inv.bytes i).fits in
-    let e = ap Err p.2 ∙ sym (refused-order 2 bs all _ _ (sym c.in-ok-plan.ensures.answer) (sym c.in-err-check-order.ensures)) in
+    let all : Bytes bs = λ i. (c.type_inv.bytes i).fits in
+    let e = ap Err p.2 ∙ sym (refused-order 2 bs all _ _ (sym c.in_ok-plan.ensures.answer) (sym c.in_err-check_order.ensures)) in
     rw p.1 (record { answer = e; promised = promise bs _ all e; found = tt; ordered = order bs _ e })
 
 pub returns : goal.returns
 returns c =
     let bs = c.args.bytes.now in
-    let all : Bytes bs = λ i. (c.type-inv.bytes i).fits in
-    let a = c.in-ok-plan.ensures in
-    let p = c.in-ok-plan.plan in
+    let all : Bytes bs = λ i. (c.type_inv.bytes i).fits in
+    let a = c.in_ok-plan.ensures in
+    let p = c.in_ok-plan.plan in
     let m = planned p in
     let o = laid_out 2 bs m (sym a.answer) in
     let r = items-ran 2 bs all m o in
-    let e = sym (taken 2 bs all m _ (sym a.answer) (sym c.in-ok-check-order.ensures)) in
+    let e = sym (taken 2 bs all m _ (sym a.answer) (sym c.in_ok-check_order.ensures)) in
     record {
       answer = e;
       promised = promise bs _ all e;

@@ -11,17 +11,17 @@ use Rattle.record.proofs.check_covered.Goals as goal
 say : (l : Layer) (known : List ℕ) (ss : List Spot) (r : Result (Unit {0}) Fault) → r ≡ tested (covered l known ss) → CoveredSays l known ss r
 say l known ss r e = subst (CoveredSays l known ss) (sym e) (covered-says l known ss)
 
-pub returns-then-not-has-key : goal.returns-then-not-has-key
-returns-then-not-has-key g c =
+pub returns-then-not-has_key : goal.returns-then-not-has_key
+returns-then-not-has_key g c =
     let known = map g.R.Numbered.number c.args.known.now in
-    let hit = ap (λ k. among k known) (sym c.key.ensures) ∙ sym c.if-not-has-key.ensures in
+    let hit = ap (λ k. among k known) (sym c.key.ensures) ∙ sym c.if-not-has_key.ensures in
     let e = cover_stop c.args.layer known g.W.Numbered.number g.W.Numbered.place c.args.asked.now _ _ c.loop-w-test.true c.w-item.is hit ∙ c.loop-w.invariant in
     rw c.offset.ensures (record { answer = e; says = say _ _ _ _ e })
 
 pub loop-w-preserved : goal.loop-w-preserved
 loop-w-preserved g c =
     let known = map g.R.Numbered.number c.args.known.now in
-    let hit = ap (λ k. among k known) (sym c.key.ensures) ∙ sym c.if-not-has-key.ensures in
+    let hit = ap (λ k. among k known) (sym c.key.ensures) ∙ sym c.if-not-has_key.ensures in
     cover_turn c.args.layer known g.W.Numbered.number g.W.Numbered.place c.args.asked.now _ _ c.loop-w-test.true c.w-item.is hit ∙ c.loop-w.invariant
 
 pub returns : goal.returns

@@ -1,4 +1,4 @@
-use Rattle.std.proofs.Common.{◌≡◌, map, drop, Ok}
+use Rattle.std.proofs.Common.{◌≡◌, map, drop}
 use Rattle.record.specs.Chains.{tested}
 use Rattle.record.specs.Rules.{covered}
 use Rattle.record.specs.Runs.{spotted}

@@ -1,4 +1,4 @@
-use Rattle.std.proofs.Common.{◌≡◌, drop, None, Ok}
+use Rattle.std.proofs.Common.{◌≡◌, drop, None}
 use Rattle.record.specs.Chains.{tested}
 use Rattle.record.specs.Rules.{rising}
 use Rattle.record.specs.Runs.{spotted}

@@ -1,4 +1,4 @@
-use Rattle.std.proofs.Common.{sym, ap, ◌∙◌}
+use Rattle.std.proofs.Common.{sym, ◌∙◌}
 use Rattle.record.proofs.Tables.{key_found, key_passed, key_none}
 use Rattle.record.proofs.has_key.Goals as goal
 

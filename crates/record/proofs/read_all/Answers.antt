@@ -1,18 +1,18 @@
-use Rattle.std.proofs.Common.{◌<◌, length, take, sym, refl, ap, ◌∙◌, arith, rules}
+use Rattle.std.proofs.Common.{◌<◌, length, sym, ◌∙◌, arith, rules}
 use Rattle.std.proofs.lemmas.Result.{err_from_is_err_and}
 use Rattle.record.proofs.Runs.{turn, stop, end}
 use Rattle.record.proofs.read_all.Goals as goal
 
-pub returns-in-err-record : goal.returns-in-err-record
-returns-in-err-record g c =
+pub returns-in_err-record : goal.returns-in_err-record
+returns-in_err-record g c =
     let t = g.R.Record in
-    let p = err_from_is_err_and c.from-residual.result c.from-residual.ensures.1 in
-    record { near = search rules; all = rw (p.1, p.2) (sym (stop t.stands t.ends c.args.frame.now _ _ _ _ _ c.loop-i-test.true (sym c.in-err-record.ensures)) ∙ c.loop-i.invariant.2) }
+    let p = err_from_is_err_and c.from_residual.result c.from_residual.ensures.1 in
+    record { near = search rules; all = rw (p.1, p.2) (sym (stop t.stands t.ends c.args.frame.now _ _ _ _ _ c.loop-i-test.true (sym c.in_err-record.ensures)) ∙ c.loop-i.invariant.2) }
 
 pub loop-i-preserved : goal.loop-i-preserved
 loop-i-preserved g c =
     let t = g.R.Record in
-    let got = sym c.in-ok-record.ensures in
+    let got = sym c.in_ok-record.ensures in
     let wide = g.met.R.Record.narrow _ _ _ got in
     let room : c.loop-i.i < length c.loop-i.out = omega arith in (
       omega (arith, wide, c.end-at.ensures),

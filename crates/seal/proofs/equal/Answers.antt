@@ -1,4 +1,4 @@
-use Rattle.std.proofs.Common.{◌≡◌, arith, eq-eqb, eqb-true}
+use Rattle.std.proofs.Common.{arith, eq-eqb, eqb-true}
 use Rattle.seal.proofs.Compare.{noted_more, noted_all}
 use Rattle.seal.proofs.equal.Goals as goal
 

@@ -9,5 +9,5 @@ pub returns : goal.returns
 returns c =
     let bs = c.args.bytes.now in
     let f = c.args.f in
-    let all = reading Frame (share_format 2) (share_rules f) (share_fields 2) (ShareIn 2) (coding 2) bs (live 1) (λ i. (c.type-inv.bytes i).fits) in
+    let all = reading Frame (share_format 2) (share_rules f) (share_fields 2) (ShareIn 2) (coding 2) bs (live 1) (λ i. (c.type_inv.bytes i).fits) in
     record { answer = c.scan.ensures.answer; promised = subst (ShareReads 2 f bs) (sym c.scan.ensures.answer) all; tag = c.scan.ensures.tag }

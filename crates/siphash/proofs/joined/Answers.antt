@@ -34,4 +34,4 @@ returns-then-b-eq8 c =
     let b : List ℕ = c.args.b.now in
     let n : length a + length b ≡ 8 = omega arith in
     let z = nil_from_length a (omega arith) in
-    record { value = c.word.ensures ∙ ap (λ (xs : List ℕ). little (xs ++ b)) (sym z); bound = rw n c.word.type-inv }
+    record { value = c.word.ensures ∙ ap (λ (xs : List ℕ). little (xs ++ b)) (sym z); bound = rw n c.word.type_inv }

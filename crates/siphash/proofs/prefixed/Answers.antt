@@ -1,4 +1,4 @@
-use Rattle.std.proofs.Common.{◌≡◌, ℕ, ◌+◌, ◌-◌, ◌*◌, ◌^◌, ◌<◌, ◌≤◌, List, ◌++◌, length, drop, sym, refl, ap, ◌∙◌, subst, arith}
+use Rattle.std.proofs.Common.{◌≡◌, ℕ, ◌+◌, ◌-◌, ◌^◌, ◌<◌, ◌≤◌, List, ◌++◌, length, drop, sym, ap, ◌∙◌, arith}
 use Rattle.std.proofs.lemmas.List.{drop_all}
 use Rattle.siphash.specs.SipHash.{little}
 use Rattle.siphash.proofs.Little.{in_front, grown, pow-le}
@@ -11,13 +11,13 @@ low w h i n z l s hh f =
     let m = pow-le (n - i + (8 - n)) 7 (omega arith) in
     omega arith
 
-pub overflow-mul-w : goal.overflow-mul-w
-overflow-mul-w c = let b = low c.loop-i.w c.args.high c.loop-i.i (length c.args.b.now) c.loop-i-test.true c.loop-i.auto.i c.requires.size c.requires.room c.loop-i.invariant.1 in omega arith
+pub overflow_mul-w : goal.overflow_mul-w
+overflow_mul-w c = let b = low c.loop-i.w c.args.high c.loop-i.i (length c.args.b.now) c.loop-i-test.true c.loop-i.auto.i c.requires.size c.requires.room c.loop-i.invariant.1 in omega arith
 
-pub overflow-add-w : goal.overflow-add-w
-overflow-add-w c =
+pub overflow_add-w : goal.overflow_add-w
+overflow_add-w c =
     let b = low c.loop-i.w c.args.high c.loop-i.i (length c.args.b.now) c.loop-i-test.true c.loop-i.auto.i c.requires.size c.requires.room c.loop-i.invariant.1 in
-    omega (arith, c.type-inv.b (c.loop-i.i - 1))
+    omega (arith, c.type_inv.b (c.loop-i.i - 1))
 
 pub loop-i-init : goal.loop-i-init
 loop-i-init c =
@@ -33,7 +33,7 @@ loop-i-preserved c =
     let i : ℕ = c.loop-i.i in (
       (λ t e. in_front b t i c.from.result c.loop-i.w c.loop-i-test.true c.loop-i.auto.i c.from.ensures (c.loop-i.invariant.0 t e)),
       (λ k h. let e : length b - (i - 1) + k ≡ length b - i + k + 1 = omega arith in
-          let x : c.from.result < 256 = omega (arith, c.type-inv.b (i - 1)) in
+          let x : c.from.result < 256 = omega (arith, c.type_inv.b (i - 1)) in
           rw e (grown c.loop-i.w c.from.result (length b - i + k) (c.loop-i.invariant.1 k h) x)),
     )
 

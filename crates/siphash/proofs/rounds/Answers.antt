@@ -12,4 +12,4 @@ unfolding sip_rounds
 more start s r i es er = rw add-one (cc)
 
 pub loop-i-preserved : goal.loop-i-preserved
-loop-i-preserved c = more c.args.start c.loop-i.s c.sip-round-s.result c.loop-i.-i c.loop-i.invariant c.sip-round-s.ensures
+loop-i-preserved c = more c.args.start c.loop-i.s c.sip_round-s.result c.loop-i._i c.loop-i.invariant c.sip_round-s.ensures

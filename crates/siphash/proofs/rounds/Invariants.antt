@@ -3,4 +3,4 @@ use Rattle.siphash.specs.SipHash.{sip_rounds}
 use Rattle.siphash.proofs.rounds.Given as goal
 
 abbrev pub invariant-loop-i : goal.invariant-loop-i
-invariant-loop-i l = l.s ≡ sip_rounds l.-i l.initial.s
+invariant-loop-i l = l.s ≡ sip_rounds l._i l.initial.s

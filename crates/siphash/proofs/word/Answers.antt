@@ -2,4 +2,4 @@ use Rattle.siphash.proofs.Little.{eight}
 use Rattle.siphash.proofs.word.Goals as goal
 
 pub returns : goal.returns
-returns c = eight c.args.b.now c.from-le-bytes.result c.requires c.from-le-bytes.ensures
+returns c = eight c.args.b.now c.from_le_bytes.result c.requires c.from_le_bytes.ensures

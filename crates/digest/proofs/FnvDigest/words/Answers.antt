@@ -1,4 +1,4 @@
-use Rattle.std.proofs.Common.{◌≡◌, [], ◌∷◌, sym, refl, ap, ◌∙◌, arith, length-append, rules}
+use Rattle.std.proofs.Common.{length-append, rules}
 use Rattle.digest.specs.Fnv.{basis, fnv_words}
 use Rattle.digest.proofs.Hashes.{hashed-append}
 use Rattle.digest.proofs.FnvDigest.words.Goals as goal

@@ -1,10 +1,10 @@
-use Rattle.std.proofs.Common.{Some, None, ◌∙◌, arith}
+use Rattle.std.proofs.Common.{None, arith}
 use native.Mathlib.Nat.{sub-zero}
 use Rattle.line.proofs.Calls.{called, too_long}
 use Rattle.line.proofs.call.line_call.Goals as goal
 
-pub returns-then-line-gt-LINE-LIMIT : goal.returns-then-line-gt-LINE-LIMIT
-returns-then-line-gt-LINE-LIMIT c = too_long c.args.line.now (omega arith)
+pub returns-then-line-gt-LINE_LIMIT : goal.returns-then-line-gt-LINE_LIMIT
+returns-then-line-gt-LINE_LIMIT c = too_long c.args.line.now (omega arith)
 
 pub returns-in-Some : goal.returns-in-Some
 returns-in-Some c =

@@ -5,7 +5,7 @@ use Rattle.numbers.proofs.worked.second_used.Goals as goal
 
 pub returns : goal.returns
 returns c = record {
-  tracks = used_open 2 c.new-numbers.result c.use-up-opened.new.self [] 2 c.use-up-opened.result second_open
-      (c.use-up-opened.ensures.used [] c.new-numbers.ensures);
+  tracks = used_open 2 c.new-numbers.result c.use_up-opened.new.self [] 2 c.use_up-opened.result second_open
+      (c.use_up-opened.ensures.used [] c.new-numbers.ensures);
   rule = after-second;
 }

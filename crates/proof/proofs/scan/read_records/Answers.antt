@@ -13,13 +13,13 @@ returns-then-n-at c =
           ∙ c.loop-i.invariant.2;
     }
 
-pub returns-in-err-check-number : goal.returns-in-err-check-number
-returns-in-err-check-number c =
+pub returns-in_err-check_number : goal.returns-in_err-check_number
+returns-in_err-check_number c =
     let k = c.args.kind in
-    let p = err_from_is_err_and c.from-residual.result c.from-residual.ensures.1 in
+    let p = err_from_is_err_and c.from_residual.result c.from_residual.ensures.1 in
     record {
       near = search rules;
-      answer = rw (p.1, p.2) (sym (bad_number k.top k.size k.boards c.loop-i.last c.args.bytes.now c.args.count c.loop-i.i c.loop-i.at c.loop-i-test.true _ c.if-n-at.false (sym c.in-err-check-number.ensures)) ∙ c.loop-i.invariant.2);
+      answer = rw (p.1, p.2) (sym (bad_number k.top k.size k.boards c.loop-i.last c.args.bytes.now c.args.count c.loop-i.i c.loop-i.at c.loop-i-test.true _ c.if-n-at.false (sym c.in_err-check_number.ensures)) ∙ c.loop-i.invariant.2);
     }
 
 pub returns-then-n-at-2 : goal.returns-then-n-at-2
@@ -28,7 +28,7 @@ returns-then-n-at-2 c =
     record {
       near = tt;
       answer = ap Err c.malformed-then-n-at-2.ensures
-          ∙ sym (no_string k.top k.size k.boards c.loop-i.last c.args.bytes.now c.args.count c.loop-i.i c.loop-i.at c.loop-i-test.true c.if-n-at.false (sym c.in-ok-check-number.ensures) c.if-n-at-2.true)
+          ∙ sym (no_string k.top k.size k.boards c.loop-i.last c.args.bytes.now c.args.count c.loop-i.i c.loop-i.at c.loop-i-test.true c.if-n-at.false (sym c.in_ok-check_number.ensures) c.if-n-at-2.true)
           ∙ c.loop-i.invariant.2;
     }
 
@@ -37,5 +37,5 @@ loop-i-preserved c =
     let k = c.args.kind in (
       omega arith,
       c.if-n-at-2.false,
-      sym (next_record k.top k.size k.boards c.loop-i.last c.args.bytes.now c.args.count c.loop-i.i c.loop-i.at c.loop-i-test.true c.if-n-at.false (sym c.in-ok-check-number.ensures) c.if-n-at-2.false) ∙ c.loop-i.invariant.2,
+      sym (next_record k.top k.size k.boards c.loop-i.last c.args.bytes.now c.args.count c.loop-i.i c.loop-i.at c.loop-i-test.true c.if-n-at.false (sym c.in_ok-check_number.ensures) c.if-n-at-2.false) ∙ c.loop-i.invariant.2,
     )

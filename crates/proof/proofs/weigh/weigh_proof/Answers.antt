@@ -10,5 +10,5 @@ returns-then-not-covers c =
 
 pub returns : goal.returns
 returns c =
-    c.weigh-entries.ensures
+    c.weigh_entries.ensures.answer
     ∙ sym (behind-low c.args.f c.args.low c.args.high c.args.entries.now (omega arith) (omega arith) ∙ pass _ _ _ (sym c.covers.ensures ∙ c.if-not-covers.false))

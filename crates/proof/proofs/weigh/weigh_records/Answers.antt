@@ -1,4 +1,4 @@
-use Rattle.std.proofs.Common.{◌≡◌, ◌+◌, ◌-◌, drop, Some, Err, sym, ap, ◌∙◌, subst, arith, rules}
+use Rattle.std.proofs.Common.{◌+◌, ◌-◌, drop, Some, Err, sym, ap, ◌∙◌, arith, rules}
 use Rattle.std.proofs.lemmas.Result.{err_from_is_err_and}
 use Rattle.fault.specs.declared.Layer.TheVariants.{Proof}
 use Rattle.fault.specs.declared.Cause.TheVariants.{Malformed}
@@ -20,14 +20,14 @@ returns-then-left-eq0 g c =
           ∙ c.loop-r.invariant.1;
     }
 
-pub returns-in-err-check-number : goal.returns-in-err-check-number
-returns-in-err-check-number g c =
+pub returns-in_err-check_number : goal.returns-in_err-check_number
+returns-in_err-check_number g c =
     let k = c.args.kind in
     let at = c.loop-r.at in
     let last = c.loop-r.last in
     let q = c.number-number.ensures in
-    let p = err_from_is_err_and c.from-residual.result c.from-residual.ensures.1 in
-    let hit = (λ i. unless (up_to k.top (sym q i)) (fault Malformed Proof at) (tested (numbered k.boards last (sym q i) at))) ∙ sym c.in-err-check-number.ensures in
+    let p = err_from_is_err_and c.from_residual.result c.from_residual.ensures.1 in
+    let hit = (λ i. unless (up_to k.top (sym q i)) (fault Malformed Proof at) (tested (numbered k.boards last (sym q i) at))) ∙ sym c.in_err-check_number.ensures in
     record {
       near = search rules;
       answer = p.1
@@ -42,7 +42,7 @@ loop-r-preserved g c =
     let at = c.loop-r.at in
     let last = c.loop-r.last in
     let q = c.number-number.ensures in
-    let hit = (λ i. unless (up_to k.top (sym q i)) (fault Malformed Proof at) (tested (numbered k.boards last (sym q i) at))) ∙ sym c.in-ok-check-number.ensures in (
+    let hit = (λ i. unless (up_to k.top (sym q i)) (fault Malformed Proof at) (tested (numbered k.boards last (sym q i) at))) ∙ sym c.in_ok-check_number.ensures in (
       omega arith,
       ap (λ v. weigh_records g.R.Keyed.key k.top k.size k.boards (c.loop-r.left - 1) (Some v) (drop (c.loop-r.r-index + 1) c.args.records.now) (at + 1 + k.size)) q
           ∙ sym (next_one g.R.Keyed.key k.top k.size k.boards last c.args.records.now c.loop-r.r-index c.loop-r.left at c.r-item.result c.loop-r-test.true c.r-item.is (omega (arith, c.if-left-eq0.false)) hit)

@@ -25,29 +25,29 @@ promise f low high es old new r all e put = writes 1 f (drafted low high es) (so
 room_left : (f room n : ℕ) (b : ProofBody) → weigh_proof 2 f b ≡ Ok n → write_proof 2 f b room ≡ room_for n room
 room_left f room n b q = then_ok (weigh_proof 2 f b) (λ e. room_for e room) n q
 
-pub returns-in-err-size : goal.returns-in-err-size
-returns-in-err-size c =
-    let p = err_from_is_err_and c.from-residual.result c.from-residual.ensures.1 in
+pub returns-in_err-size : goal.returns-in_err-size
+returns-in_err-size c =
+    let p = err_from_is_err_and c.from_residual.result c.from_residual.ensures.1 in
     let b = drafted c.args.low c.args.high c.args.entries.now in
     let old = c.args.out.now in
-    let e = ap Err p.2 ∙ sym (then_err (weigh_proof 2 c.args.f b) (λ n. room_for n (length old)) _ (sym c.in-err-size.ensures)) in
-    rw p.1 (record { answer = e; size = (tt, known_sizes); promised = promise c.args.f c.args.low c.args.high c.args.entries.now old old _ (λ i. (c.type-inv.out i).fits) e refl })
+    let e = ap Err p.2 ∙ sym (then_err (weigh_proof 2 c.args.f b) (λ n. room_for n (length old)) _ (sym c.in_err-size.ensures)) in
+    rw p.1 (record { answer = e; size = (tt, known_sizes); promised = promise c.args.f c.args.low c.args.high c.args.entries.now old old _ (λ i. (c.type_inv.out i).fits) e refl })
 
 pub returns-then-out-size : goal.returns-then-out-size
 returns-then-out-size c =
     let b = drafted c.args.low c.args.high c.args.entries.now in
     let old = c.args.out.now in
-    let n = c.in-ok-size.size in
+    let n = c.in_ok-size.size in
     let e : Err (fault NoRoom Frame 0) ≡ write_proof 2 c.args.f b (length old) =
-    sym (room_left c.args.f (length old) n b (sym c.in-ok-size.ensures) ∙ refuse (leb n (length old)) (fault NoRoom Frame 0) (Ok n) (lt-leb n (length old) (omega arith)))
+    sym (room_left c.args.f (length old) n b (sym c.in_ok-size.ensures) ∙ refuse (leb n (length old)) (fault NoRoom Frame 0) (Ok n) (lt-leb n (length old) (omega arith)))
     in
-    record { answer = e; size = (tt, known_sizes); promised = promise c.args.f c.args.low c.args.high c.args.entries.now old old _ (λ i. (c.type-inv.out i).fits) e refl }
+    record { answer = e; size = (tt, known_sizes); promised = promise c.args.f c.args.low c.args.high c.args.entries.now old old _ (λ i. (c.type_inv.out i).fits) e refl }
 
-pub put-proof-requires : goal.put-proof-requires
-put-proof-requires c =
+pub put_proof-requires : goal.put_proof-requires
+put_proof-requires c =
     let es = c.args.entries.now in
     let b = drafted c.args.low c.args.high es in
-    let q = sym c.in-ok-size.ensures in
+    let q = sym c.in_ok-size.ensures in
     let long = (proof-end 1 c.args.f b _ (solid es) q).1 in
     record { fits = both_fit 2 c.args.f b _ q; room = omega (arith, long) }
 
@@ -56,12 +56,12 @@ returns c =
     let es = c.args.entries.now in
     let b = drafted c.args.low c.args.high es in
     let old = c.args.out.now in
-    let n = c.in-ok-size.size in
-    let q = sym c.in-ok-size.ensures in
+    let n = c.in_ok-size.size in
+    let q = sym c.in_ok-size.ensures in
     let long = (proof-end 1 c.args.f b _ (solid es) q).1 in
     let e : Ok n ≡ write_proof 2 c.args.f b (length old) =
     sym (room_left c.args.f (length old) n b q ∙ pass (leb n (length old)) (fault NoRoom Frame 0) (Ok n) (le-leb n (length old) (omega arith)))
     in
-    let put = c.put-proof.ensures ∙ ap (λ k. proof_bytes 2 b ++ drop k old) (sym long) in
-    let kept = promise c.args.f c.args.low c.args.high es old _ (Ok n) (λ i. (c.type-inv.out i).fits) e put in
+    let put = c.put_proof.ensures ∙ ap (λ k. proof_bytes 2 b ++ drop k old) (sym long) in
+    let kept = promise c.args.f c.args.low c.args.high es old _ (Ok n) (λ i. (c.type_inv.out i).fits) e put in
     record { answer = e; size = (subst (ProofSize 2 c.args.f b) (sym long) (sized 2 c.args.f b (kept.back n refl).0.in_range), known_sizes); promised = kept }

@@ -7,4 +7,4 @@ use Rattle.reading.proofs.draft.put_draft.Goals as goal
 pub returns : goal.returns
 returns c =
     let ds = c.args.items.now in
-    put_behind (count_bytes (length ds)) (flat_map read_item_bytes ds) c.args.out.now c.put-head.new.out c.put-all.new.out 2 refl c.put-head.ensures c.put-all.ensures.bytes
+    put_behind (count_bytes (length ds)) (flat_map read_item_bytes ds) c.args.out.now c.put_head.new.out c.put_all.new.out 2 refl c.put_head.ensures c.put_all.ensures.bytes

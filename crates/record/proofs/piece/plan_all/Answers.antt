@@ -1,19 +1,19 @@
-use Rattle.std.proofs.Common.{◌<◌, length, take, sym, ap, ◌∙◌, arith, rules}
+use Rattle.std.proofs.Common.{◌<◌, length, sym, ◌∙◌, arith, rules}
 use Rattle.std.proofs.lemmas.Result.{err_from_is_err_and}
 use Rattle.record.proofs.Runs.{plan_turn, plan_stop, plan_end}
 use Rattle.record.proofs.piece.plan_all.Goals as goal
 
-pub returns-in-err-mark : goal.returns-in-err-mark
-returns-in-err-mark g c =
-    let p = err_from_is_err_and c.from-residual.result c.from-residual.ensures.1 in
+pub returns-in_err-mark : goal.returns-in_err-mark
+returns-in_err-mark g c =
+    let p = err_from_is_err_and c.from_residual.result c.from_residual.ensures.1 in
     record {
       near = search rules;
-      all = rw (p.1, p.2) (sym (plan_stop g.P.Part.judged g.P.Mark.Record.ends c.args.parts.now _ _ _ c.loop-i-test.true c.index-parts-i.is _ _ (sym c.in-err-mark.ensures.answer)) ∙ c.loop-i.invariant.1);
+      all = rw (p.1, p.2) (sym (plan_stop g.P.Part.judged g.P.Mark.Record.ends c.args.parts.now _ _ _ c.loop-i-test.true c.index-parts-i.is _ _ (sym c.in_err-mark.ensures.answer)) ∙ c.loop-i.invariant.1);
     }
 
 pub loop-i-preserved : goal.loop-i-preserved
 loop-i-preserved g c =
-    let got = c.in-ok-mark.ensures in
+    let got = c.in_ok-mark.ensures in
     let room : c.loop-i.i < length c.loop-i.out = omega arith in (
       omega (arith, got.near, c.end-at.ensures),
       rw c.end-at.ensures (plan_turn g.P.Part.judged g.P.Mark.Record.ends c.args.parts.now _ _ _ c.loop-i-test.true c.index-parts-i.is _ _ room (sym got.answer) ∙ c.loop-i.invariant.1),

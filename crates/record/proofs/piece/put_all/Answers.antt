@@ -1,12 +1,12 @@
-use Rattle.std.proofs.Common.{◌≡◌, ◌+◌, ◌<◌, ◌≤◌, length, take, drop, sym, ap, ◌∙◌, arith, length-drop, rules}
+use Rattle.std.proofs.Common.{length, take, sym, ap, ◌∙◌, arith, length-drop}
 use Rattle.std.specs.List.{flat_map}
 use Rattle.std.proofs.lemmas.List.{take_rest, take_all, length-append}
 use Rattle.octets.specs.Parts.{over}
 use Rattle.record.proofs.Puts.{put_behind, front_more, rest-length, every_more}
 use Rattle.record.proofs.piece.put_all.Goals as goal
 
-pub slice-bounds-put-count : goal.slice-bounds-put-count
-slice-bounds-put-count g c = omega arith
+pub slice_bounds-put-count : goal.slice_bounds-put-count
+slice_bounds-put-count g c = omega arith
 
 pub put-requires : goal.put-requires
 put-requires g c =
@@ -20,8 +20,8 @@ put-requires g c =
 pub size-at-requires : goal.size-at-requires
 size-at-requires g c = (every_more g.P.Piece.bytes c.args.pieces.now _ _ c.loop-p-test.true c.p-item.is g.P.Piece.ready c.loop-p.invariant.3).0
 
-pub overflow-add-at : goal.overflow-add-at
-overflow-add-at g c =
+pub overflow_add-at : goal.overflow_add-at
+overflow_add-at g c =
     let r = rest-length g.P.Piece.bytes c.args.pieces.now _ _ c.loop-p-test.true c.p-item.is in
     omega (arith, r, c.size-at.ensures)
 

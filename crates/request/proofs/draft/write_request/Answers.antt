@@ -23,38 +23,38 @@ size d n tag long =
     let wb = flat_map write_bytes d.writes.now in
     sym (ap length (same_bytes d)) ∙ omega (arith, length-append (rb ++ wb) d.tag, length-append rb wb, tag, long)
 
-pub returns-in-err-plan : goal.returns-in-err-plan
-returns-in-err-plan c =
-    let p = err_from_is_err_and c.from-residual.result c.from-residual.ensures.1 in
+pub returns-in_err-plan : goal.returns-in_err-plan
+returns-in_err-plan c =
+    let p = err_from_is_err_and c.from_residual.result c.from_residual.ensures.1 in
     let d = c.args.draft in
     let old = c.args.out.now in
-    let q = c.in-err-plan.ensures in
+    let q = c.in_err-plan.ensures in
     let e = ap Err p.2 ∙ sym (refused_form d q.tag (length old) _ (sym q.answer)) in
-    rw p.1 (record { answer = e; size = (tt, (refl, refl)); occur = sizes_occur; promised = promised d old old _ q.tag (λ i. (c.type-inv.out i).fits) e refl })
+    rw p.1 (record { answer = e; size = (tt, (refl, refl)); occur = sizes_occur; promised = promised d old old _ q.tag (λ i. (c.type_inv.out i).fits) e refl })
 
-pub returns-in-err-check-order : goal.returns-in-err-check-order
-returns-in-err-check-order c =
-    let p = err_from_is_err_and c.from-residual-in-err-check-order.result c.from-residual-in-err-check-order.ensures.1 in
+pub returns-in_err-check_order : goal.returns-in_err-check_order
+returns-in_err-check_order c =
+    let p = err_from_is_err_and c.from_residual-in_err-check_order.result c.from_residual-in_err-check_order.ensures.1 in
     let d = c.args.draft in
     let old = c.args.out.now in
-    let q = c.in-ok-plan.ensures in
-    let e = ap Err p.2 ∙ sym (refused-order d q.tag (length old) _ _ (sym q.answer) (sym c.in-err-check-order.ensures)) in
-    rw p.1 (record { answer = e; size = (tt, (refl, refl)); occur = sizes_occur; promised = promised d old old _ q.tag (λ i. (c.type-inv.out i).fits) e refl })
+    let q = c.in_ok-plan.ensures in
+    let e = ap Err p.2 ∙ sym (refused-order d q.tag (length old) _ _ (sym q.answer) (sym c.in_err-check_order.ensures)) in
+    rw p.1 (record { answer = e; size = (tt, (refl, refl)); occur = sizes_occur; promised = promised d old old _ q.tag (λ i. (c.type_inv.out i).fits) e refl })
 
 pub returns-then-out-size : goal.returns-then-out-size
 returns-then-out-size c =
     let d = c.args.draft in
     let old = c.args.out.now in
-    let q = c.in-ok-plan.ensures in
-    let n = c.in-ok-plan.plan.tag_at + 16 in
+    let q = c.in_ok-plan.ensures in
+    let n = c.in_ok-plan.plan.tag_at + 16 in
     let e : Err (fault NoRoom Frame 0) ≡ write_request 2 (drafted d) (length old) =
-    sym (room_left d q.tag (length old) _ _ (sym q.answer) (sym c.in-ok-check-order.ensures) ∙ refuse (leb n (length old)) (fault NoRoom Frame 0) (Ok n) (lt-leb n (length old) (omega arith)))
+    sym (room_left d q.tag (length old) _ _ (sym q.answer) (sym c.in_ok-check_order.ensures) ∙ refuse (leb n (length old)) (fault NoRoom Frame 0) (Ok n) (lt-leb n (length old) (omega arith)))
     in
-    record { answer = e; size = (tt, (refl, refl)); occur = sizes_occur; promised = promised d old old _ q.tag (λ i. (c.type-inv.out i).fits) e refl }
+    record { answer = e; size = (tt, (refl, refl)); occur = sizes_occur; promised = promised d old old _ q.tag (λ i. (c.type_inv.out i).fits) e refl }
 
-pub put-draft-requires : goal.put-draft-requires
-put-draft-requires c =
-    let q = c.in-ok-plan.ensures in
+pub put_draft-requires : goal.put_draft-requires
+put_draft-requires c =
+    let q = c.in_ok-plan.ensures in
     let r = readied c.args.draft _ (sym q.answer) in
     record { few = r.few; ready = r.ready; room = omega (arith, r.long) }
 
@@ -62,15 +62,15 @@ pub returns : goal.returns
 returns c =
     let d = c.args.draft in
     let old = c.args.out.now in
-    let q = c.in-ok-plan.ensures in
-    let t = c.in-ok-plan.plan.tag_at in
+    let q = c.in_ok-plan.ensures in
+    let t = c.in_ok-plan.plan.tag_at in
     let r = readied d _ (sym q.answer) in
     let n = t + 16 in
     let whole = written (request_fields 2 (drafted d)) in
     let long = size d t q.tag r.long in
     let e : Ok n ≡ write_request 2 (drafted d) (length old) =
-    sym (room_left d q.tag (length old) _ _ (sym q.answer) (sym c.in-ok-check-order.ensures) ∙ pass (leb n (length old)) (fault NoRoom Frame 0) (Ok n) (le-leb n (length old) (omega arith)))
+    sym (room_left d q.tag (length old) _ _ (sym q.answer) (sym c.in_ok-check_order.ensures) ∙ pass (leb n (length old)) (fault NoRoom Frame 0) (Ok n) (le-leb n (length old) (omega arith)))
     in
-    let put = c.put-draft.ensures ∙ ap (λ l. l ++ drop (length l) old) (same_bytes d) ∙ ap (λ k. whole ++ drop k old) long in
-    let kept = promised d old _ (Ok n) q.tag (λ i. (c.type-inv.out i).fits) e put in
+    let put = c.put_draft.ensures ∙ ap (λ l. l ++ drop (length l) old) (same_bytes d) ∙ ap (λ k. whole ++ drop k old) long in
+    let kept = promised d old _ (Ok n) q.tag (λ i. (c.type_inv.out i).fits) e put in
     record { answer = e; size = (subst (RequestSize 2 (drafted d)) long (sized 2 (drafted d) (kept.back n refl).0), (refl, refl)); occur = sizes_occur; promised = kept }

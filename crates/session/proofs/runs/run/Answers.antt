@@ -1,4 +1,4 @@
-use Rattle.std.proofs.Common.{◌≡◌, ℕ, ◌<◌, List, [], ◌∷◌, ◌++◌, length, take, drop, Ok, sym, ap, ◌∙◌, subst, arith}
+use Rattle.std.proofs.Common.{◌≡◌, ◌<◌, [], ◌++◌, length, take, drop, Ok, ap, ◌∙◌, subst, arith}
 use Rattle.fault.specs.declared.Verdict.TheVariants.{Abort}
 use Rattle.session.specs.Runs.{Ran, accepted_by, played}
 use Rattle.session.specs.Standing.{Represents}

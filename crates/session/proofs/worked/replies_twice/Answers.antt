@@ -8,7 +8,7 @@ pub returns : goal.returns
 returns c =
     let v = c.args.verdict in
     let k = c.args.version in
-    let new = subst (λ n. Represents c.new-session.result n []) c.in-ok-new.ensures.2 c.new-session.ensures in
+    let new = subst (λ n. Represents c.new-session.result n []) c.in_ok-new.ensures.2 c.new-session.ensures in
     record {
       runs = λ ok fine.
           let first = took_first v k ok c.reply-first.new.self c.reply-first.result (c.reply-first.ensures.answers 1 [] new) in

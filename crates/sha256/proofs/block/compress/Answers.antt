@@ -1,4 +1,4 @@
-use Rattle.std.proofs.Common.{◌≡◌, ℕ, ◌<◌, List, length, get_or, sym, refl, ap, ◌∙◌, not-suc-le-zero, arith, length-set}
+use Rattle.std.proofs.Common.{◌≡◌, ℕ, ◌<◌, List, length, get_or, sym, refl, ◌∙◌, not-suc-le-zero, arith, length-set}
 use Rattle.sha256.specs.Block.{W, rounds, compressed}
 use Rattle.sha256.proofs.Rounds.{rounded, stored}
 use Rattle.sha256.proofs.Schedule.{schedule_start, schedule_next, next-same}
@@ -15,18 +15,18 @@ loop-t-preserved c =
     let t : ℕ = c.loop-t.t in
     let x : c.if-t-lt16.x ≡ get_or (W b) t 0 =
     elim c.if-t-lt16.branch [
-      | then-t-lt16 w ↦ w.x-is ∙ w.own-word-x.ensures ∙ sym (schedule_start b t w.if-t-lt16.true)
-      | else-t-lt16 w ↦ w.x-is ∙ w.next-word-x.ensures ∙ next-same c.loop-t.w (W b) t w.if-t-lt16.false c.loop-t.invariant.1
+      | then-t-lt16 w ↦ w.x-is ∙ w.own_word-x.ensures ∙ sym (schedule_start b t w.if-t-lt16.true)
+      | else-t-lt16 w ↦ w.x-is ∙ w.next_word-x.ensures ∙ next-same c.loop-t.w (W b) t w.if-t-lt16.false c.loop-t.invariant.1
           ∙ sym (schedule_next b t w.if-t-lt16.false c.loop-t-test.true)
     ] in
     let lt : t < length c.loop-t.w = omega (arith, c.loop-t.invariant.0) in (
       length-set c.loop-t.w t c.if-t-lt16.x ∙ c.loop-t.invariant.0,
       stored c.loop-t.w (W b) t c.if-t-lt16.x lt c.loop-t.invariant.1 x,
-      rounded (W b) c.args.h t _ _ _ _ c.loop-t.invariant.2 x c.round-constant.ensures c.one-round-turned.ensures,
+      rounded (W b) c.args.h t _ _ _ _ c.loop-t.invariant.2 x c.round_constant.ensures c.one_round-turned.ensures,
     )
 
 pub returns : goal.returns
 unfolding compressed
 returns c =
     let e : c.loop-t.t ≡ 64 = omega arith in
-    c.add-words.ensures ∙ cc
+    c.add_words.ensures ∙ cc

@@ -8,5 +8,5 @@ returns-then-not-taken c =
 
 pub returns : goal.returns
 returns c =
-    digest-is c.start.result c.hash-parts.result c.args.head.now c.args.rest.now c.if-not-taken.ensures
-    c.start.ensures c.hash-parts.ensures
+    digest-is c.start.result c.hash_parts.result c.args.head.now c.args.rest.now c.if-not-taken.ensures
+    c.start.ensures c.hash_parts.ensures

@@ -8,5 +8,5 @@ returns-then-not-taken c =
 
 pub returns : goal.returns
 returns c =
-    behind-is c.start.result c.args.first.now c.compress-h.result c.hash-parts.result c.args.head.now
-    c.args.rest.now (omega arith) c.if-not-taken.ensures c.start.ensures c.compress-h.ensures c.hash-parts.ensures
+    behind-is c.start.result c.args.first.now c.compress-h.result c.hash_parts.result c.args.head.now
+    c.args.rest.now (omega arith) c.if-not-taken.ensures c.start.ensures c.compress-h.ensures c.hash_parts.ensures

@@ -15,6 +15,6 @@ returns-else-rest-room c =
     let room : ℕ = c.missing-room.result in
     let bytes : List ℕ = c.join-else-rest-room.new.bytes in
     let lb : length bytes ≡ 64 = omega arith in
-    c.hash-after.ensures
+    c.hash_after.ensures
     ∙ joined-long c.args.h tail rest bytes c.compress-s.result _ c.args.n room (room - 0) c.missing-room.ensures
     c.if-rest-room.false lb (omega arith) c.join-else-rest-room.ensures c.compress-s.ensures (take_rest rest room)

@@ -1,4 +1,4 @@
-use Rattle.std.proofs.Common.{◌≡◌, ℕ, ◌+◌, ◌*◌, ◌/◌, List, ◌++◌, length, drop, sym, ap, ◌∙◌}
+use Rattle.std.proofs.Common.{ℕ, ◌+◌, ◌*◌, ◌/◌, List, ◌++◌, length, drop, sym, ap, ◌∙◌}
 use Rattle.std.proofs.lemmas.List.{take_rest}
 use Rattle.sha256.specs.Padding.{padding}
 use Rattle.sha256.specs.Hash.{after_all}
@@ -11,7 +11,7 @@ returns c =
     let rest : List ℕ = c.args.rest.now in
     let f : ℕ = length head / 64 in
     let n : ℕ = c.args.before + length head + length rest in
-    c.hash-joined.ensures
+    c.hash_joined.ensures
     ∙ ap (λ (t : List ℕ). after_all c.absorb-h.result ((t ++ rest) ++ padding n)) (take_rest head (64 * f))
     ∙ ap (λ (h : List ℕ). after_all h ((drop (64 * f) head ++ rest) ++ padding n)) c.absorb-h.ensures
     ∙ sym (head_first c.args.start head rest n)

@@ -1,4 +1,4 @@
-use Rattle.std.proofs.Common.{◌≡◌, ℕ, ◌+◌, ◌*◌, ◌<◌, ◌≤◌, List, length, get_or, take, sym, refl, ap, ◌∙◌, arith}
+use Rattle.std.proofs.Common.{ℕ, ◌*◌, ◌<◌, ◌≤◌, List, length, get_or, sym, refl, ap, ◌∙◌, arith}
 use Rattle.std.proofs.lemmas.List.{take_all}
 use Rattle.sha256.specs.Padding.{bytes_of}
 use Rattle.sha256.proofs.Numbers.{word-written}
@@ -11,8 +11,8 @@ loop-i-preserved c =
     let i : ℕ = c.loop-i.i in
     let lt : i < length ws = omega arith in
     let room : 4 * i ≤ length out = omega arith in
-    word-written out ws c.copy-from-slice.new.self i _ (get_or ws i 0) lt room refl
-    (c.copy-from-slice.ensures.after ∙ c.word-bytes.ensures) c.loop-i.invariant
+    word-written out ws c.copy_from_slice.new.self i _ (get_or ws i 0) lt room refl
+    (c.copy_from_slice.ensures.after ∙ c.word_bytes.ensures) c.loop-i.invariant
 
 pub returns : goal.returns
 returns c =

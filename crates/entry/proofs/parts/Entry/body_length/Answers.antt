@@ -1,4 +1,4 @@
-use Rattle.std.proofs.Common.{◌≡◌, ◌+◌, length, take, arith, length-take}
+use Rattle.std.proofs.Common.{◌≡◌, length, take, arith, length-take}
 use Rattle.entry.specs.Bodies.{item_body, item_bytes}
 use Rattle.entry.proofs.Sizes.{even_length}
 use Rattle.entry.proofs.parts.Entry.body_length.Goals as goal

@@ -1,4 +1,4 @@
-use Rattle.std.proofs.Common.{refl, arith, rules}
+use Rattle.std.proofs.Common.{refl, arith}
 use Rattle.entry.specs.Bodies.{item_body}
 use Rattle.entry.proofs.Fronts.{front_length, front_push}
 use Rattle.entry.proofs.parts.Entry.push.Goals as goal

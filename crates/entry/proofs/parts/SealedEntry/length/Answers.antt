@@ -12,4 +12,4 @@ returns c =
     let long : length front ≡ e.count = simp length-take (omega (arith, e.few, e.room)) in
     let even = even_length pair_body pair_bytes 17 (λ x. omega (arith, x.whole)) front in
     let both = length-append (entry_bytes 2 (sealed_body e).entry) (flat_map pair_bytes (map pair_body front)) in
-    (omega (arith, c.body-length.ensures.0, even, long, both), omega (arith, e.few, c.body-length.ensures.1))
+    (omega (arith, c.body_length.ensures.0, even, long, both), omega (arith, e.few, c.body_length.ensures.1))

@@ -1,4 +1,4 @@
-use Rattle.std.proofs.Common.{refl, arith, rules}
+use Rattle.std.proofs.Common.{refl, arith}
 use Rattle.entry.specs.Bodies.{pair_body}
 use Rattle.entry.proofs.Fronts.{front_length, front_push}
 use Rattle.entry.proofs.parts.SealedEntry.push.Goals as goal

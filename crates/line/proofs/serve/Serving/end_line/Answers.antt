@@ -7,12 +7,12 @@ pub returns-in-Some : goal.returns-in-Some
 returns-in-Some g c = record {
   bank = refl;
   line = c.clear.ensures;
-  step = λ line whole. answer-kept (λ m. written (g.D.Digest.of m)) (g.S.Store.holds c.args.self.now.bank.store) c.args.self.now.bank.count c.args.self.now.bank.chain line _ _ _ whole c.as-slice.ensures c.in-Some.ensures;
+  step = λ line whole. answer-kept (λ m. written (g.D.Digest.of m)) (g.S.Store.holds c.args.self.now.bank.store) c.args.self.now.bank.count c.args.self.now.bank.chain line _ _ _ whole c.as_slice.ensures c.in-Some.ensures;
 }
 
 pub returns-in-None : goal.returns-in-None
 returns-in-None g c = record {
   bank = refl;
   line = c.clear.ensures;
-  step = λ line whole. answer-kept (λ m. written (g.D.Digest.of m)) (g.S.Store.holds c.args.self.now.bank.store) c.args.self.now.bank.count c.args.self.now.bank.chain line _ _ _ whole c.as-slice.ensures c.in-None.ensures;
+  step = λ line whole. answer-kept (λ m. written (g.D.Digest.of m)) (g.S.Store.holds c.args.self.now.bank.store) c.args.self.now.bank.count c.args.self.now.bank.chain line _ _ _ whole c.as_slice.ensures c.in-None.ensures;
 }

@@ -7,9 +7,9 @@ use Rattle.line.proofs.serve.Serving.finish.Goals as goal
 
 pub returns : goal.returns
 returns g c = record {
-  bank = c.end-line.ensures.bank;
+  bank = c.end_line.ensures.bank;
   step =
       finished
       (line_answer (λ m. written (g.D.Digest.of m)) (g.S.Store.holds c.args.self.now.bank.store) c.args.self.now.bank.count c.args.self.now.bank.chain)
-      (gathered c.args.self.now.gather) c.end-line.result (sym c.is-empty.ensures ∙ c.if-is-empty.false) c.end-line.ensures.step;
+      (gathered c.args.self.now.gather) c.end_line.result (sym c.is_empty.ensures ∙ c.if-is_empty.false) c.end_line.ensures.step;
 }

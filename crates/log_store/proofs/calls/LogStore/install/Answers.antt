@@ -7,25 +7,25 @@ use Rattle.log_store.proofs.Latest.{latest-roomy}
 use Rattle.log_store.proofs.calls.LogStore.install.Goals as goal
 
 pub listed : goal.listed
-listed g c = let whole = c.make-room.new.self.whole in let room = c.make-room.ensures.room in omega arith
+listed g c = let whole = c.make_room.new.self.whole in let room = c.make_room.ensures.room in omega arith
 
 pub bounds-self-self : goal.bounds-self-self
-bounds-self-self g c = c.make-room.ensures.room
+bounds-self-self g c = c.make_room.ensures.room
 
-pub invariant-of-self : goal.invariant-of-self
-invariant-of-self g c =
-    let whole = c.make-room.new.self.whole in
-    let room = c.make-room.ensures.room in
-    (simp length-set whole, (c.make-room.new.self.room, (omega arith, tt)))
+pub invariant_of-self : goal.invariant_of-self
+invariant_of-self g c =
+    let whole = c.make_room.new.self.whole in
+    let room = c.make_room.ensures.room in
+    record { whole = simp length-set whole; room = c.make_room.new.self.room; within = omega arith }
 
 pub returns : goal.returns
 returns g c =
-    let ys = c.make-room.new.self.records in
-    let u = c.make-room.new.self.used in
+    let ys = c.make_room.new.self.records in
+    let u = c.make_room.new.self.used in
     let r : LogRecord = recorded c.args.item c.args.row in
-    let whole = c.make-room.new.self.whole in
-    let room = c.make-room.ensures.room in
-    let kept = c.make-room.ensures.kept in
+    let whole = c.make_room.new.self.whole in
+    let room = c.make_room.ensures.room in
+    let kept = c.make_room.ensures.kept in
     let now' : take (u + 1) (set ys u r) ≡ take u ys ++ r ∷ [] = take_more_set ys u r (omega arith) in
     record {
       sets = ap (λ (ls : List LogRecord). latest ls (item_of r)) now' ∙ push_same (take u ys) r;

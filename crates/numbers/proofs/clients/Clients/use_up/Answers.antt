@@ -7,8 +7,8 @@ returns c =
     let below = c.if-client-ge-CLIENTS.false in
     let there : c.args.client < length c.args.self.now.numbers = search rules in
     record {
-      used = λ used tr. all_uses c.args.self.now c.args.client c.use-up.new.self 2 c.args.s below there used tr c.use-up.result
-          (c.use-up.ensures.used (used c.args.client) (tr c.args.client below));
-      kept = all_untouched c.args.self.now c.args.client c.use-up.new.self c.use-up.result c.use-up.ensures.kept;
-      others = others-kept c.args.self.now c.args.client c.use-up.new.self;
+      used = λ used tr. all_uses c.args.self.now c.args.client c.use_up.new.self 2 c.args.s below there used tr c.use_up.result
+          (c.use_up.ensures.used (used c.args.client) (tr c.args.client below));
+      kept = all_untouched c.args.self.now c.args.client c.use_up.new.self c.use_up.result c.use_up.ensures.kept;
+      others = others-kept c.args.self.now c.args.client c.use_up.new.self;
     }

@@ -13,20 +13,20 @@ none = record { entry = record { version = 0; items = [] }; pairs = [] }
 pub loop-j-init : goal.loop-j-init
 loop-j-init c = (omega arith, λ f b h. refl)
 
-pub returns-in-err-passed : goal.returns-in-err-passed
-returns-in-err-passed c = λ f b h.
+pub returns-in_err-passed : goal.returns-in_err-passed
+returns-in_err-passed c = λ f b h.
     let below : c.loop-j.j < length b.entries = omega (arith, c.len.ensures f b h, c.if-i-len.false, c.loop-j-test.true) in
     let y = lies_in f c.args.self b c.loop-j.j none h below in
-    absurd (c.in-err-passed.ensures.there y.pre y.post f (b.low + c.loop-j.j) (get_or b.entries c.loop-j.j none) h.among y.in_range y.fits y.bytes (y.place ∙ sym (c.loop-j.invariant.1 f b h)) (subst (λ k. k ≤ 1000000) (sym (c.loop-j.invariant.1 f b h)) y.near))
+    absurd (c.in_err-passed.ensures.there y.pre y.post f (b.low + c.loop-j.j) (get_or b.entries c.loop-j.j none) h.among y.in_range y.fits y.bytes (y.place ∙ sym (c.loop-j.invariant.1 f b h)) (subst (λ k. k ≤ 1000000) (sym (c.loop-j.invariant.1 f b h)) y.near))
 
 pub loop-j-preserved : goal.loop-j-preserved
 loop-j-preserved c = (
-  omega (arith, c.in-ok-passed.ensures.inside),
+  omega (arith, c.in_ok-passed.ensures.inside),
   λ f b h.
       let below : c.loop-j.j < length b.entries = omega (arith, c.len.ensures f b h, c.if-i-len.false, c.loop-j-test.true) in
       let s = get_or b.entries c.loop-j.j none in
       let y = lies_in f c.args.self b c.loop-j.j none h below in
-      let p = c.in-ok-passed.ensures.there y.pre y.post f (b.low + c.loop-j.j) s h.among y.in_range y.fits y.bytes (y.place ∙ sym (c.loop-j.invariant.1 f b h)) (subst (λ k. k ≤ 1000000) (sym (c.loop-j.invariant.1 f b h)) y.near) in
+      let p = c.in_ok-passed.ensures.there y.pre y.post f (b.low + c.loop-j.j) s h.among y.in_range y.fits y.bytes (y.place ∙ sym (c.loop-j.invariant.1 f b h)) (subst (λ k. k ≤ 1000000) (sym (c.loop-j.invariant.1 f b h)) y.near) in
       omega (arith, y.next, c.loop-j.invariant.1 f b h, ap length p.body, ap length p.pairs, length-append (entry_bytes 2 s.entry) (flat_map pair_bytes s.pairs)),
 )
 
@@ -40,7 +40,7 @@ returns c = λ f b h.
     let end : c.loop-j.j ≡ i = omega (arith, c.loop-j-test.false, c.loop-j.auto.j-end) in
     let below : i < length b.entries = omega (arith, c.len.ensures f b h, c.if-i-len.false) in
     let at : c.loop-j.at ≡ entry_place 2 b i = c.loop-j.invariant.1 f b h ∙ ap (entry_place 2 b) end in
-    found-there (PartHolds f (entry_place 2 b i)) b.entries i c.sealed-at-2.result below (λ d.
+    found-there (PartHolds f (entry_place 2 b i)) b.entries i c.sealed_at-2.result below (λ d.
     let y = lies_in f c.args.self b i d h below in
-    let t = c.sealed-at-2.ensures.there y.pre y.post f (b.low + i) (get_or b.entries i d) h.among y.in_range y.fits y.bytes (y.place ∙ sym at) (subst (λ k. k ≤ 1000000) (sym at) y.near) in
-    subst (λ k. There (PartHolds f k) (get_or b.entries i d) c.sealed-at-2.result) at t)
+    let t = c.sealed_at-2.ensures.there y.pre y.post f (b.low + i) (get_or b.entries i d) h.among y.in_range y.fits y.bytes (y.place ∙ sym at) (subst (λ k. k ≤ 1000000) (sym at) y.near) in
+    subst (λ k. There (PartHolds f k) (get_or b.entries i d) c.sealed_at-2.result) at t)

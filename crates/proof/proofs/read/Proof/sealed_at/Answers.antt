@@ -1,4 +1,4 @@
-use Rattle.std.proofs.Common.{◌≡◌, ◌+◌, ◌*◌, ◌≤◌, length, get_or, sym, refl, ap, ◌∙◌, subst, arith}
+use Rattle.std.proofs.Common.{◌+◌, ◌*◌, sym, refl, ap, ◌∙◌, subst, arith}
 use Rattle.octets.specs.Parts.{part_at}
 use Rattle.proof.specs.Bodies.{SealedIn}
 use Rattle.proof.proofs.Laid.{laid}
@@ -32,7 +32,7 @@ returns c =
       there = λ pre post f due s same h fits e long near.
           let y = laid bs pre post f due at s h fits e long in
           record {
-            version = c.number-at.ensures.value ∙ y.version;
+            version = c.number_at.ensures.value ∙ y.version;
             place = refl;
             near = near;
             writes = y.writes;

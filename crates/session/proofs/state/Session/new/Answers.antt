@@ -1,4 +1,4 @@
-use Rattle.std.proofs.Common.{◌+◌, leb, [], refl, ap, ◌∙◌, arith}
+use Rattle.std.proofs.Common.{◌+◌, [], refl, arith}
 use Rattle.std.proofs.lemmas.Bool.{lt-leb}
 use Rattle.session.specs.Replies.{agreeing}
 use Rattle.session.specs.Sizes.{members}

@@ -1,18 +1,18 @@
-use Rattle.std.proofs.Common.{◌≡◌, ◌*◌, ◌<◌, ◌≤◌, false, Err, sym, ap, ◌∙◌, subst, arith}
+use Rattle.std.proofs.Common.{◌*◌, ◌<◌, ◌≤◌, Err, sym, ap, ◌∙◌, subst, arith}
 use Rattle.session.specs.Standing.{Represents}
 use Rattle.session.proofs.Replying.{answer-decided, answer-refused, answer_waiting, means_decided, means_waiting, same-session, stands-decided, stands_waiting}
 use Rattle.session.proofs.state.Session.reply.Goals as goal
 
-pub returns-in-default : goal.returns-in-default
-returns-in-default c =
+pub returns-in_default : goal.returns-in_default
+returns-in_default c =
     let s = c.args.self.now in
     let r = c.args.reply in
     let ok = sym c.malformed.ensures ∙ c.if-malformed.false in
     let low : r.board ≤ 3 * s.size.f = omega (arith, c.if-reply-faulty.false, c.faulty.ensures) in
-    let same = same-session r s c.take.new.self c.in-default.ensures.size c.in-default.ensures.state in
+    let same = same-session r s c.take.new.self c.in_default.ensures.size c.in_default.ensures.state in
     record {
       answers = λ f rs st. (
-        ap Err c.refusal-in-default.ensures ∙ sym (answer-refused s f rs st r ok low c.take.new.self c.in-default.ensures.state),
+        ap Err c.refusal-in_default.ensures ∙ sym (answer-refused s f rs st r ok low c.take.new.self c.in_default.ensures.state),
         subst (λ x. Represents x f rs) (sym same) st,
       );
       means = λ f rs st. tt;

@@ -2,10 +2,10 @@ use Rattle.std.proofs.Common.{◌≤◌, length, arith, rules}
 use Rattle.std.proofs.lemmas.Slice.{overwrites}
 use Rattle.store.proofs.value.Value.new.Goals as goal
 
-pub invariant-of-result : goal.invariant-of-result
-invariant-of-result c =
+pub invariant_of-result : goal.invariant_of-result
+invariant_of-result c =
     let few : length c.args.bytes.now ≤ 32 = omega arith in
-    (few, (search (rules, overwrites), tt))
+    record { fits = few; whole = search (rules, overwrites) }
 
 pub returns : goal.returns
 returns c = search (rules, overwrites)

@@ -1,4 +1,4 @@
-use Rattle.std.proofs.Common.{◌≡◌, ◌%◌, ◌<◌, length, sym, ap, ◌∙◌, subst, rules}
+use Rattle.std.proofs.Common.{◌%◌, ◌<◌, length, rules}
 use Rattle.window.proofs.Placing.{added}
 use Rattle.window.proofs.ring.Window.add.Goals as goal
 

@@ -1,11 +1,11 @@
-use Rattle.std.proofs.Common.{◌≡◌, ℕ, List, [], ◌∷◌, ◌++◌, take, sym, ap, ◌∙◌, subst, arith}
+use Rattle.std.proofs.Common.{◌≡◌, List, [], ◌∷◌, ◌++◌, take, sym, ap, ◌∙◌, subst, arith}
 use Rattle.entry.specs.Bodies.{EntryBody, PairBody, SealedBody, Pushed, entry_body, pair_body, sealed_body}
 use Rattle.entry.specs.declared.parts.SealedEntry.{SealedEntry}
 use Rattle.window.specs.Shares.{pairs_below}
 use Rattle.window.specs.Windows.{tag_of}
 use Rattle.window.proofs.ShareLaws.{pairs_no, pairs_start, pairs_yes, six-more}
 use Rattle.window.proofs.slot.Slot.sealed.Goals as goal
-use Rattle.window.proofs.slot.Slot.sealed.Goals.{in-Some, in-default}
+use Rattle.window.proofs.slot.Slot.sealed.Goals.{in-Some, in_default}
 
 pub loop-s-init : goal.loop-s-init
 loop-s-init c = (
@@ -29,8 +29,8 @@ loop-s-preserved c =
                 ∙ ap (take 6) (ap (λ p. pairs_below tag n ++ p ∷ []) pair ∙ sym (pairs_yes tag n w.in-Some.tag (sym w.in-Some.ensures))),
             ap body w.sealed-is ∙ ap entry_body w.push.ensures.1 ∙ c.loop-s.invariant.1,
           )
-      | in-default w ↦ (
-        ap pairs w.sealed-is ∙ c.loop-s.invariant.0 ∙ ap (take 6) (sym (pairs_no tag n (sym c.tag.ensures ∙ w.in-default.is))),
+      | in_default w ↦ (
+        ap pairs w.sealed-is ∙ c.loop-s.invariant.0 ∙ ap (take 6) (sym (pairs_no tag n (sym c.tag.ensures ∙ w.in_default.is))),
         ap body w.sealed-is ∙ c.loop-s.invariant.1,
       )
     ]
