@@ -1,5 +1,5 @@
 -- What a delivery answers, and where it brings a board.
-use Rattle.std.proofs.Common.{◌≡◌, ℕ, ◌+◌, ◌<◌, ◌≤◌, List, [], ◌∷◌, ◌++◌, length, take, Ok, Err, Result, sym, refl, ap, ◌∙◌, subst, arith}
+use Rattle.std.proofs.Common.{◌≡◌, ℕ, ◌≤◌, List, [], ◌∷◌, ◌++◌, take, Ok, Err, Result, sym, refl, ap, ◌∙◌, subst, arith}
 use Rattle.std.specs.List.{AllByRecursion, AllByRecursion as All}
 use Rattle.fault.specs.declared.Fault.{Fault}
 use Rattle.fault.specs.declared.Verdict.TheVariants.{Abort, Commit}
@@ -11,19 +11,19 @@ use Rattle.label.specs.declared.Label.TheVariants.{Request}
 use Rattle.label.specs.Labels.{labelled}
 use Rattle.seal.specs.Seals.{client_signer}
 use Rattle.store.specs.Slot.{Slot}
-use Rattle.numbers.specs.Sequence.{Open, opens}
+use Rattle.numbers.specs.Sequence.{Open}
 use Rattle.numbers.specs.Clients.{TracksAll, UsedMore}
 use Rattle.request.specs.Bodies.{ReadBody, RequestBody, read_request}
 use Rattle.history.specs.declared.Delivery.{Delivery}
-use Rattle.history.specs.Events.{Effect, Event, abort, commit, delivered, effect, effects, verdict_effect, width}
+use Rattle.history.specs.Events.{Event, abort, commit, delivered, effect, effects, verdict_effect, width}
 use Rattle.history.specs.Commits.{Passes, commits}
 use Rattle.history.specs.Entries.{shares_of}
 use Rattle.history.specs.Clients.{used}
-use Rattle.history.specs.Answers.{Answered, Delivers, Judged, deliver_table, tag_at}
+use Rattle.history.specs.Answers.{Answered, Delivers, deliver_table, tag_at}
 use Rattle.history.specs.Tables.{Case, Read, Under, when}
 use Rattle.history.proofs.Appends.{commits-abort, commits-commit, effects_push, shares-abort, shares-commit, used-abort, used-abort-other, used-commit, used-commit-other}
 use Rattle.board.specs.declared.state.Board.{Board}
-use Rattle.board.specs.Standing.{Represents, Stands}
+use Rattle.board.specs.Standing.{Represents}
 use Rattle.board.specs.Delivering.{Agrees, Committed, KeptOnRefusal, checks}
 use Rattle.board.proofs.Standing.{stands_quiet, stands_same}
 use Rattle.board.proofs.DeliverStands.{agrees_passes, passes_agrees, stands-commit, stands-used}
@@ -59,8 +59,8 @@ all_map_here P Q [] f p = tt
 all_map_here P Q (x ∷ xs) f p = (f x p.0, all_map_here P Q xs f p.1)
 
 -- a refusal leaves the board, and adds an event without effect
-module _ {S D L M : Type 0} (holds : S → ℕ → Slot) (digest : List ℕ → List ℕ) (tag_of : L → ℕ → List ℕ → List ℕ)
-    (tag : ℕ → List ℕ → List ℕ) (f own : ℕ) (b : Board S D L M) (h : List Event) (st : Represents holds digest tag_of tag f own b h)
+module _ {S D L : Type 0} (holds : S → ℕ → Slot) (digest : List ℕ → List ℕ) (tag_of : L → ℕ → List ℕ → List ℕ)
+    (tag : ℕ → List ℕ → List ℕ) (f own : ℕ) (b : Board S D L) (h : List Event) (st : Represents holds digest tag_of tag f own b h)
     (frame : List ℕ) where
   pub refusal : (r : Result Delivery Fault) (e : Fault) → r ≡ Err e → Answered digest tag f own (effects h) (delivered frame (Err e))
       → Answered digest tag f own (effects h) (delivered frame r) × Represents holds digest tag_of tag f own b (h ++ delivered frame r ∷ [])
@@ -75,8 +75,8 @@ module _ {S D L M : Type 0} (holds : S → ℕ → Slot) (digest : List ℕ → 
 pub left_alone : {A : Type 0} (b : A) (r : Result Delivery Fault) (e : Fault) → r ≡ Err e → KeptOnRefusal b b r
 left_alone b r e is = subst (λ x. KeptOnRefusal b b x) (sym is) refl
 
-module _ {S D L M : Type 0} (holds : S → ℕ → Slot) (digest : List ℕ → List ℕ) (tag_of : L → ℕ → List ℕ → List ℕ)
-    (tag : ℕ → List ℕ → List ℕ) (f own : ℕ) (b : Board S D L M) (h : List Event) (st : Represents holds digest tag_of tag f own b h)
+module _ {S D L : Type 0} (holds : S → ℕ → Slot) (digest : List ℕ → List ℕ) (tag_of : L → ℕ → List ℕ → List ℕ)
+    (tag : ℕ → List ℕ → List ℕ) (f own : ℕ) (b : Board S D L) (h : List Event) (st : Represents holds digest tag_of tag f own b h)
     (frame : List ℕ) (q : RequestBody) (reads : read_request width frame ≡ Ok q) where
   -- the table of a board that stands there is the history's
   same_table : (A : Type 0) (P : A → Type 0) (r : Result A Fault) (fr : List ℕ) → fr ≡ frame
@@ -123,7 +123,7 @@ module _ {S D L M : Type 0} (holds : S → ℕ → Slot) (digest : List ℕ → 
       items all
 
   -- an abort: the number is used up, and nothing else
-  pub aborts : (c : Board S D L M) (version opened : ℕ)
+  pub aborts : (c : Board S D L) (version opened : ℕ)
       → c.place ≡ b.place → c.seal ≡ b.seal → c.count ≡ b.count → c.chain ≡ b.chain → c.store ≡ b.store → c.window ≡ b.window
       → ((more : ℕ → List ℕ) → UsedMore (λ k. used k (effects h)) q.client q.sequence more → TracksAll width c.clients more)
       → Represents holds digest tag_of tag f own c (h ++ delivered frame (Ok (record { verdict = Abort; version = version; opened = opened })) ∷ [])
@@ -141,7 +141,7 @@ module _ {S D L M : Type 0} (holds : S → ℕ → Slot) (digest : List ℕ → 
       (tracks us (used-abort es q.client q.sequence, λ k ne. used-abort-other es q.client q.sequence k (λ x. ne (sym x)))) st)
 
   -- a commit: m is the board behind the number that is used up
-  pub commit-made : (m c : Board S D L M) (version opened : ℕ) → Committed digest holds m c q.writes
+  pub commit-made : (m c : Board S D L) (version opened : ℕ) → Committed digest holds m c q.writes
       → m.place ≡ b.place → m.seal ≡ b.seal → m.count ≡ b.count → m.chain ≡ b.chain → m.store ≡ b.store → m.window ≡ b.window
       → ((more : ℕ → List ℕ) → UsedMore (λ k. used k (effects h)) q.client q.sequence more → TracksAll width m.clients more)
       → Represents holds digest tag_of tag f own c (h ++ delivered frame (Ok (record { verdict = Commit; version = version; opened = opened })) ∷ [])

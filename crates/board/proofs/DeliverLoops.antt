@@ -1,5 +1,5 @@
 -- Turns of the loops over a request's records, which read record i or find none.
-use Rattle.std.proofs.Common.{◌≡◌, ℕ, zero, suc, ◌+◌, ◌-◌, ◌<◌, ◌≤◌, min, Bool, true, false, cond, eqb, List, [], ◌∷◌, ◌++◌, map, length, get_or, take, drop, replicate, Some, None, Decides, Option, sym, refl, ap, ◌∙◌, subst, arith}
+use Rattle.std.proofs.Common.{◌≡◌, ℕ, zero, suc, ◌+◌, ◌-◌, ◌<◌, ◌≤◌, Bool, true, false, cond, eqb, List, [], ◌∷◌, ◌++◌, map, length, get_or, take, drop, replicate, Some, None, Decides, Option, sym, refl, ap, ◌∙◌, subst, arith}
 use borrow.Rule.Slice.PartMut.{put_mid}
 use Rattle.std.specs.List.{slice_get, AllByRecursion as All, AllByRecursion}
 use Rattle.std.proofs.ByRecursion.{All-get_or, All-more}
@@ -7,7 +7,7 @@ use Rattle.std.proofs.lemmas.List.{append_assoc, append-nil, length-map, length-
 use Rattle.std.proofs.lemmas.Bool.{both_ways}
 use Rattle.entry.specs.declared.parts.Entry.{Entry}
 use Rattle.entry.specs.declared.parts.ItemDigest.{ItemDigest}
-use Rattle.entry.specs.Bodies.{ItemBody, Pushed, entry_body, item_body}
+use Rattle.entry.specs.Bodies.{Pushed, entry_body, item_body}
 use Rattle.octets.specs.Parts.{over}
 use Rattle.label.specs.declared.Label.TheVariants.{Chain}
 use Rattle.label.specs.Labels.{label_bytes}

@@ -11,12 +11,12 @@ use Rattle.record.specs.Rules.{above, covered, rising, spots}
 use Rattle.record.proofs.Keeping.{through}
 use Rattle.record.proofs.Rules.{guards-append}
 use Rattle.record.proofs.Steps.{passed}
-use Rattle.record.specs.Formats.{Field, written, str}
+use Rattle.record.specs.Formats.{written, str}
 use Rattle.record.proofs.Paths.{written-append}
 use Rattle.request.specs.declared.Request.{Request}
 use Rattle.request.specs.Bodies.{ReadBody, ReadIn, RequestBody, RequestReads, WriteBody, WriteIn, read_fields, read_item, read_spots, request_fields, write_fields, write_item, write_spots, writes_at}
 use Rattle.request.specs.Requests.{Found, held}
-use Rattle.history.specs.Answers.{tagAt}
+use Rattle.history.specs.Answers.{tag_at}
 use Rattle.board.specs.Delivering.{Shaped}
 use Rattle.board.specs.WriteSets.{Rises, WriteSet}
 
@@ -39,7 +39,7 @@ writes-long (w ∷ ws) all =
     omega arith
 
 -- the tag stands behind the reads and the writes
-lists-long : (b : RequestBody) → length b.tag ≡ 16 → length (written (request_fields 2 b)) ≡ tagAt b + 16
+lists-long : (b : RequestBody) → length b.tag ≡ 16 → length (written (request_fields 2 b)) ≡ tag_at b + 16
 lists-long b tag =
     let rs = flat_map (read_fields 2) b.reads in
     let ws = flat_map write_fields b.writes in
@@ -55,7 +55,7 @@ pub shaped : (bs : List ℕ) (q : Request) → RequestReads 2 bs (Ok (held q)) �
 shaped bs q reads found =
     let ok = reads.accepted (held q) refl in
     let inside = ok.0 in
-    let long : length bs ≡ tagAt (held q) + 16 = ap length ok.2 ∙ lists-long (held q) inside.tag in
+    let long : length bs ≡ tag_at (held q) + 16 = ap length ok.2 ∙ lists-long (held q) inside.tag in
     let end : length bs ≡ q.plan.tag_at + 16 = found.end in
     let a : length (written (flat_map (read_fields 2) (held q).reads)) ≤ 35 * length (held q).reads = reads-long (held q).reads inside.reads in
     let b : length (written (flat_map write_fields (held q).writes)) ≤ 34 * length (held q).writes = writes-long (held q).writes inside.writes in

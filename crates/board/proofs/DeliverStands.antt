@@ -1,7 +1,5 @@
 -- Where a commit, and a number that is used up, bring a board.
 use Rattle.std.proofs.Common.{◌≡◌, ℕ, ◌+◌, ◌%◌, ◌<◌, ◌≤◌, cond, eqb, List, [], ◌∷◌, ◌++◌, length, None, Option, sym, refl, ap, ◌∙◌, subst, inl, inr, arith}
-use Rattle.std.specs.List.{AllByRecursion as All}
-use Rattle.std.proofs.ByRecursion.{All-weaker}
 use Rattle.std.proofs.lemmas.List.{length_push}
 use Rattle.std.proofs.lemmas.Bool.{cases_eq, cases_lt}
 use Rattle.store.specs.Slot.{Slot}
@@ -9,11 +7,11 @@ use Rattle.entry.specs.Bodies.{EntryBody, PairBody, entry_body}
 use Rattle.window.specs.declared.slot.Slot as slots
 use Rattle.window.specs.declared.ring.Window.{Window}
 use Rattle.window.specs.Shares.{shares_below, shares_of}
-use Rattle.window.specs.Windows.{Kept, entry_in, shares_in, slot_in, tag_in, tag_of}
+use Rattle.window.specs.Windows.{entry_in, shares_in, slot_in, tag_in, tag_of}
 use Rattle.numbers.specs.Clients.{TracksAll}
 use Rattle.request.specs.Bodies.{ReadBody, WriteBody}
 use Rattle.history.specs.Events.{width}
-use Rattle.history.specs.Commits.{HadRead, Left, Passes, kept, left, leave, written}
+use Rattle.history.specs.Commits.{Passes, kept, left, leave, written}
 use Rattle.history.specs.Entries.{Evicted, chain_after, chain_string, entry_at, entry_of, tag_by}
 use Rattle.history.proofs.Chains.{chain_push, entry-append, entry_push}
 use Rattle.history.proofs.Lefts.{left_push}
@@ -53,10 +51,10 @@ holds_more digest f w cs more ps v low high h = record {
   signers = h.signers;
 }
 
-module _ {S D L M : Type 0} (holds : S → ℕ → Slot) (digest : List ℕ → List ℕ) (tagOf' : L → ℕ → List ℕ → List ℕ)
+module _ {S D L : Type 0} (holds : S → ℕ → Slot) (digest : List ℕ → List ℕ) (tagOf' : L → ℕ → List ℕ → List ℕ)
     (tag : ℕ → List ℕ → List ℕ) (f own : ℕ) where
   -- a read agrees with what the store holds exactly when it passes
-  module _ (b : Board S D L M) (cs : List (List WriteBody)) (us : ℕ → List ℕ) (ps : ℕ → List PairBody)
+  module _ (b : Board S D L) (cs : List (List WriteBody)) (us : ℕ → List ℕ) (ps : ℕ → List PairBody)
       (st : Stands holds digest tagOf' tag f own b cs us ps) where
     held-digest : (x : ℕ) → x < 64 → cond (eqb (holds b.store x).version 0) (digest []) (holds b.store x).digest ≡ digest (left cs x).value
     held-digest x lt =
@@ -72,7 +70,7 @@ module _ {S D L M : Type 0} (holds : S → ℕ → Slot) (digest : List ℕ → 
         (lt, h.0 ∙ sym (ap (λ (s : Slot). s.version) (st.items r.item lt)), h.1 ∙ sym (held-digest r.item lt))
 
   -- a commit
-  pub stands-commit : (b c : Board S D L M) (cs : List (List WriteBody)) (ws : List WriteBody) (us : ℕ → List ℕ) (ps : ℕ → List PairBody)
+  pub stands-commit : (b c : Board S D L) (cs : List (List WriteBody)) (ws : List WriteBody) (us : ℕ → List ℕ) (ps : ℕ → List PairBody)
       → Committed digest holds b c ws → Stands holds digest tagOf' tag f own b cs us ps → Stands holds digest tagOf' tag f own c (cs ++ ws ∷ []) us ps
   stands-commit b c cs ws us ps made st =
       let n : length (cs ++ ws ∷ []) ≡ length cs + 1 = length_push cs ws in
@@ -120,7 +118,7 @@ module _ {S D L M : Type 0} (holds : S → ℕ → Slot) (digest : List ℕ → 
       not_le p q no' = elim (cases_lt q p) [ inl lt ↦ lt | inr le ↦ absurd (no' le) ]
 
   -- a number that is used up
-  pub stands-used : (b c : Board S D L M) (cs : List (List WriteBody)) (us vs : ℕ → List ℕ) (ps : ℕ → List PairBody)
+  pub stands-used : (b c : Board S D L) (cs : List (List WriteBody)) (us vs : ℕ → List ℕ) (ps : ℕ → List PairBody)
       → c.place ≡ b.place → c.seal ≡ b.seal → c.count ≡ b.count → c.chain ≡ b.chain → c.store ≡ b.store → c.window ≡ b.window
       → TracksAll width c.clients vs → Stands holds digest tagOf' tag f own b cs us ps → Stands holds digest tagOf' tag f own c cs vs ps
   stands-used b c cs us vs ps place seal count chain store window tracks st = record {

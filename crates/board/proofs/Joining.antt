@@ -1,9 +1,8 @@
 -- Taking in a share: the tests as a table, and where the board stands then.
-use Rattle.std.proofs.Common.{◌≡◌, ℕ, zero, suc, ◌+◌, ◌%◌, ◌<◌, ◌≤◌, Bool, true, false, cond, eqb, ◌⊎◌, List, [], ◌∷◌, ◌++◌, map, length, is_some, Some, None, Ok, Err, Decides, Option, Result, sym, refl, ap, ◌∙◌, subst, inl, inr, le_of_suc-le-suc, not-suc-le-zero, arith, eq-eqb, eqb-true}
+use Rattle.std.proofs.Common.{◌≡◌, ℕ, zero, suc, Bool, true, false, cond, eqb, ◌⊎◌, List, [], ◌∷◌, ◌++◌, map, is_some, Some, None, Ok, Err, Decides, Option, Result, sym, refl, ap, ◌∙◌, subst, inl, inr, le_of_suc-le-suc, not-suc-le-zero, eq-eqb}
 use borrow.Author.Tests.{clash}
-use Rattle.std.specs.List.{ContainsAt as Has, AllByRecursion as All}
-use Rattle.std.proofs.ByRecursion.{All-push, has_append_right}
-use Rattle.std.proofs.lemmas.List.{length_push}
+use Rattle.std.specs.List.{ContainsAt as Has}
+use Rattle.std.proofs.ByRecursion.{has_append_right}
 use Rattle.std.proofs.lemmas.Bool.{cases_eq, cond-false, cond-true, ne_eqb}
 use Rattle.fault.specs.declared.Fault.{Fault}
 use Rattle.fault.specs.declared.Cause.TheVariants.{WrongTag}
@@ -11,7 +10,7 @@ use Rattle.fault.specs.declared.Layer.TheVariants.{Seal}
 use Rattle.fault.specs.Codes.{fault}
 use Rattle.entry.specs.Bodies.{PairBody}
 use Rattle.history.specs.Entries.{signer_of, tag_by}
-use Rattle.history.specs.Tables.{Case, Under, when}
+use Rattle.history.specs.Tables.{Under, when}
 use Rattle.history.proofs.Deciding.{has_head}
 use Rattle.board.proofs.ShareOut.{two_tests}
 use Rattle.board.specs.Shares.{Joins}

@@ -11,6 +11,7 @@ pub mod ProofOut
 pub mod Weighs
 pub mod ProofSealed
 pub mod ProofHistory
+pub mod Sets
 pub mod DeliverLoops
 pub mod DeliverShapes
 pub mod DeliverStands

@@ -80,8 +80,8 @@ module _ (digest : List ℕ → List ℕ) (tag : ℕ → List ℕ → List ℕ) 
             under-rows vs ks Q r rest counts.1 (is ∙ ap told (lt-ltb f (shares_in w v) (omega arith))) (λ others. more (full, others))),
       )
 
-module _ {S D L M : Type 0} (holds : S → ℕ → Slot) (digest : List ℕ → List ℕ) (tag_of : L → ℕ → List ℕ → List ℕ)
-    (tag : ℕ → List ℕ → List ℕ) (f own : ℕ) (b : Board S D L M) (h : List Event) (low high : ℕ)
+module _ {S D L : Type 0} (holds : S → ℕ → Slot) (digest : List ℕ → List ℕ) (tag_of : L → ℕ → List ℕ → List ℕ)
+    (tag : ℕ → List ℕ → List ℕ) (f own : ℕ) (b : Board S D L) (h : List Event) (low high : ℕ)
     (st : Represents holds digest tag_of tag f own b h) (sets : WriteSets h) where
   abbrev es : List Effect
   es = effects h

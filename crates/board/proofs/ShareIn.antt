@@ -1,7 +1,7 @@
 -- Where a board stands that has judged a share.
-use Rattle.std.proofs.Common.{◌≡◌, ℕ, ◌+◌, ◌*◌, ◌%◌, ◌<◌, ◌≤◌, Bool, true, false, cond, ltb, leb, ◌⊎◌, List, [], ◌∷◌, ◌++◌, map, length, is_some, Some, None, Ok, Err, Decides, Option, Result, sym, refl, ap, ◌∙◌, subst, inl, inr, arith, ltb-true, lt-ltb}
+use Rattle.std.proofs.Common.{◌≡◌, ℕ, ◌+◌, ◌%◌, ◌<◌, ◌≤◌, Bool, true, false, ltb, leb, List, [], ◌∷◌, ◌++◌, length, is_some, None, Ok, Decides, Option, Result, sym, refl, ap, ◌∙◌, subst, inl, inr, arith, ltb-true, lt-ltb}
 use borrow.Author.Tests.{clash}
-use Rattle.std.specs.List.{ContainsAt as Has, AllByRecursion as All}
+use Rattle.std.specs.List.{ContainsAt as Has}
 use Rattle.std.proofs.ByRecursion.{All-push}
 use Rattle.std.proofs.lemmas.List.{length_push}
 use Rattle.std.proofs.lemmas.Bool.{cases_eq}
@@ -21,7 +21,7 @@ use Rattle.window.specs.Shares.{shares_of as sharesBy}
 use Rattle.window.specs.Windows.{Added, entry_in, shares_in, slot_in, tag_in, tag_of as tag_at}
 use Rattle.history.specs.Answers.{share_table}
 use Rattle.history.specs.Commits.{commits}
-use Rattle.history.specs.Entries.{Evicted, entry_at, sealed_string, shares_of, signer_of, signers_of, tag_by}
+use Rattle.history.specs.Entries.{sealed_string, shares_of, signers_of, tag_by}
 use Rattle.history.specs.Events.{Effect, share, width}
 use Rattle.history.specs.Clients.{used}
 use Rattle.history.specs.Tables.{Under}
@@ -46,8 +46,8 @@ off d e p = clash (sym e ∙ d.1 p)
 board-few : (f s : ℕ) → s < boards f → f ≤ 5 → s < 16
 board-few f s lt few = omega arith
 
-module _ {S D L M : Type 0} (holds : S → ℕ → Slot) (digest : List ℕ → List ℕ) (tag_of : L → ℕ → List ℕ → List ℕ)
-    (tag : ℕ → List ℕ → List ℕ) (f own : ℕ) (b c : Board S D L M) (es : List Effect) (s : ShareBody)
+module _ {S D L : Type 0} (holds : S → ℕ → Slot) (digest : List ℕ → List ℕ) (tag_of : L → ℕ → List ℕ → List ℕ)
+    (tag : ℕ → List ℕ → List ℕ) (f own : ℕ) (b c : Board S D L) (es : List Effect) (s : ShareBody)
     (st : Stands holds digest tag_of tag f own b (commits es) (λ k. used k es) (λ v. shares_of v es))
     (member : s.signer < boards f) (some : 1 ≤ s.version) where
   -- the share as the history has it

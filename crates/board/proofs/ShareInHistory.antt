@@ -1,5 +1,5 @@
 -- A share in as an event of the history.
-use Rattle.std.proofs.Common.{◌≡◌, ℕ, ◌+◌, ◌<◌, ◌≤◌, Bool, true, false, cond, ltb, List, [], ◌∷◌, ◌++◌, length, Ok, Err, Result, sym, refl, ap, ◌∙◌, subst, ltb-true}
+use Rattle.std.proofs.Common.{◌≡◌, ℕ, ◌+◌, ◌<◌, Bool, true, false, ltb, List, [], ◌∷◌, ◌++◌, length, Ok, Err, Result, sym, refl, ap, ◌∙◌, subst, ltb-true}
 use Rattle.fault.specs.declared.Fault.{Fault}
 use Rattle.fault.specs.Codes.{fault}
 use Rattle.fault.specs.declared.Cause.TheVariants.{NotMember}
@@ -17,7 +17,7 @@ use Rattle.window.specs.Windows.{Added, entry_in}
 use Rattle.history.specs.Answers.{Answered, ShareInAnswers, share_table}
 use Rattle.history.specs.Commits.{commits}
 use Rattle.history.specs.Entries.{shares_of}
-use Rattle.history.specs.Events.{Effect, Event, effect, effects, nothing, share, share_effect, shared_in}
+use Rattle.history.specs.Events.{Effect, Event, effects, share, share_effect, shared_in}
 use Rattle.history.specs.Clients.{used}
 use Rattle.history.specs.Tables.{Read, Under}
 use Rattle.history.proofs.Appends.{effects_push}
@@ -44,8 +44,8 @@ read-formed f frame s is = go (formed Frame (share_format 2) frame) (sym (read_s
     go (Ok a) e = (let_through (ltb a.signer (boards f)) (fault NotMember Frame 1) (Ok a) (Ok s) s refl e).1
     go (Err x) e = absurd (ok_err (sym e))
 
-module _ {S D L M : Type 0} (holds : S → ℕ → Slot) (digest : List ℕ → List ℕ) (tag_of : L → ℕ → List ℕ → List ℕ)
-    (tag : ℕ → List ℕ → List ℕ) (f own : ℕ) (b c : Board S D L M) (h : List Event) (frame : List ℕ)
+module _ {S D L : Type 0} (holds : S → ℕ → Slot) (digest : List ℕ → List ℕ) (tag_of : L → ℕ → List ℕ → List ℕ)
+    (tag : ℕ → List ℕ → List ℕ) (f own : ℕ) (b c : Board S D L) (h : List Event) (frame : List ℕ)
     (st : Represents holds digest tag_of tag f own b h) where
   abbrev Told : Result ℕ Fault → Type 0
   Told r = Answered digest tag f own (effects h) (shared_in frame r) × Represents holds digest tag_of tag f own c (h ++ shared_in frame r ∷ [])
@@ -58,7 +58,7 @@ module _ {S D L M : Type 0} (holds : S → ℕ → Slot) (digest : List ℕ → 
 
   -- a refusal changes nothing
   quiet : (e : Fault) → c ≡ b → Represents holds digest tag_of tag f own c (h ++ shared_in frame (Err e) ∷ [])
-  quiet e same = (let P : Board S D L M → Type 0 = λ x. Represents holds digest tag_of tag f own x (h ++ shared_in frame (Err e) ∷ []) in
+  quiet e same = (let P : Board S D L → Type 0 = λ x. Represents holds digest tag_of tag f own x (h ++ shared_in frame (Err e) ∷ []) in
       subst P (sym same) (stands_quiet holds digest tag_of tag f own b h (shared_in frame (Err e)) refl st))
 
   answered : (s : ShareBody) (r : Result ℕ Fault) → read_share 2 f frame ≡ Ok s → Under (share_table digest tag f own (effects h) s) (λ n. n ≡ length (shares_of s.version (effects h)) + 1) r

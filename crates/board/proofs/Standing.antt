@@ -1,11 +1,11 @@
 -- A board stands where events that change nothing have brought it.
-use Rattle.std.proofs.Common.{◌≡◌, ℕ, ◌<◌, ◌≤◌, List, [], ◌∷◌, ◌++◌, length, replicate, sym, refl, ap, ◌∙◌, subst, arith}
+use Rattle.std.proofs.Common.{◌≡◌, ℕ, ◌<◌, ◌≤◌, List, [], ◌∷◌, ◌++◌, replicate, sym, refl, ap, ◌∙◌, subst, arith}
 use Rattle.store.specs.Slot.{Slot, blank}
 use Rattle.entry.specs.Bodies.{PairBody}
 use Rattle.numbers.specs.Clients.{TracksAll, numbers_of}
 use Rattle.numbers.specs.Tracking.{Tracks}
 use Rattle.request.specs.Bodies.{WriteBody}
-use Rattle.history.specs.Events.{Effect, Event, effect, effects, nothing, width}
+use Rattle.history.specs.Events.{Event, effect, effects, nothing, width}
 use Rattle.history.specs.Commits.{commits, kept}
 use Rattle.history.specs.Entries.{shares_of}
 use Rattle.history.specs.Clients.{used}
@@ -19,8 +19,8 @@ use Rattle.board.specs.Standing.{Holds, Represents, Stands}
 no_version : (v : ℕ) → 1 ≤ v → v ≤ 0 → ⊥
 no_version v low high = omega arith
 
-module _ {S D L M : Type 0} (holds : S → ℕ → Slot) (digest : List ℕ → List ℕ) (tag_of : L → ℕ → List ℕ → List ℕ)
-    (tag : ℕ → List ℕ → List ℕ) (f own : ℕ) (b : Board S D L M) where
+module _ {S D L : Type 0} (holds : S → ℕ → Slot) (digest : List ℕ → List ℕ) (tag_of : L → ℕ → List ℕ → List ℕ)
+    (tag : ℕ → List ℕ → List ℕ) (f own : ℕ) (b : Board S D L) where
   -- it stands by what the commits, the used numbers and the shares are
   pub stands_same : (cs ds : List (List WriteBody)) (us vs : ℕ → List ℕ) (ps qs : ℕ → List PairBody) → ds ≡ cs
       → ((c : ℕ) → vs c ≡ us c) → ((v : ℕ) → qs v ≡ ps v) → Stands holds digest tag_of tag f own b cs us ps → Stands holds digest tag_of tag f own b ds vs qs

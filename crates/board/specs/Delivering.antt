@@ -21,7 +21,7 @@ use Rattle.request.specs.Requests.{held, read_of, read_views, write_of, write_vi
 use Rattle.history.specs.Events.{width}
 use Rattle.history.specs.Commits.{Left, kept, leave, written}
 use Rattle.history.specs.Entries.{chain_string, entry_of}
-use Rattle.history.specs.Answers.{tagAt}
+use Rattle.history.specs.Answers.{tag_at}
 use Rattle.history.specs.Tables.{Case, when}
 use Rattle.board.specs.declared.state.Board.{Board}
 
@@ -41,7 +41,7 @@ row_of version value digest = record { version = version; value = value; digest 
 -- A request as its frame's reader leaves it: few and short records, each found at its place, and the tag behind them.
 pub record Shaped (q : requests.Request) : Type 0 where
   pub client : q.plan.top.client ≤ 15
-  pub tag_there : q.plan.tag_at ≡ tagAt (held q)
+  pub tag_there : q.plan.tag_at ≡ tag_at (held q)
   pub short : q.plan.tag_at ≤ 838
   pub end : length q.frame.now ≡ q.plan.tag_at + 16
   pub each_read : (i : ℕ) → read_of q i ≡ slice_get (read_views q) i
@@ -52,7 +52,7 @@ pub record Shaped (q : requests.Request) : Type 0 where
 -- What is refused before a request is judged: the client's tag, its number, the count of commits, in this order.
 abbrev pub checks : (ℕ → List ℕ → List ℕ) → List ℕ → ℕ → List ℕ → RequestBody → List Case
 checks tag used count frame b =
-    when (passes tag (client_signer b.client) (labelled Request (take (tagAt b) frame)) b.tag → ⊥) (fault WrongTag layer.Seal (tagAt b))
+    when (passes tag (client_signer b.client) (labelled Request (take (tag_at b) frame)) b.tag → ⊥) (fault WrongTag layer.Seal (tag_at b))
     ∷ when (Open width used b.sequence → ⊥) (fault NotOpen layer.Board 2)
     ∷ when (limit width ≤ count) (fault BankFull layer.Board 0)
     ∷ []
@@ -69,7 +69,7 @@ module _ (digest : List ℕ → List ℕ) where
   Installed k ws before after = (x : ℕ) (l : Left) → before x ≡ kept digest l → after x ≡ kept digest (leave k (written ws x) l)
 
   -- A commit was made: one more is counted, chained, kept in the window and installed, and nothing else changed.
-  pub record Committed {S D L M : Type 0} (holds : S → ℕ → Slot) (b c : Board S D L M) (ws : List WriteBody) : Type 0 where
+  pub record Committed {S D L : Type 0} (holds : S → ℕ → Slot) (b c : Board S D L) (ws : List WriteBody) : Type 0 where
     pub place : c.place ≡ b.place
     pub seal : c.seal ≡ b.seal
     pub clients : c.clients ≡ b.clients

@@ -54,7 +54,7 @@ Refusal (Ok _) P = Unit {0}
 Refusal (Err _) P = P
 
 -- all but the window is as it was
-pub record Rest {S D L M : Type 0} (before after : board.Board S D L M) : Type 0 where
+pub record Rest {S D L : Type 0} (before after : board.Board S D L) : Type 0 where
   pub store : after.store ≡ before.store
   pub seal : after.seal ≡ before.seal
   pub place : after.place ≡ before.place

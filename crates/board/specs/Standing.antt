@@ -1,6 +1,6 @@
 -- How a board stands to its history.
 use Rattle.std.specs.Prelude.{◌≡◌, ℕ, ◌+◌, ◌<◌, ◌≤◌, List, [], length}
-use Rattle.std.specs.List.{AllByRecursion as All}
+use Rattle.std.specs.List.{AllByRecursion}
 use Rattle.record.specs.Rules.{boards}
 use Rattle.store.specs.Slot.{Slot}
 use Rattle.entry.specs.Bodies.{PairBody}
@@ -20,12 +20,12 @@ pub record Holds (digest : List ℕ → List ℕ) (f : ℕ) (w : Window) (cs : L
   pub tags : (s : ℕ) → s < 16 → tag_in w v s ≡ tag_by ps s
   pub count : shares_in w v ≡ length ps
   pub few : length ps ≤ f + 1
-  pub signers : All (λ p. p.signer < boards f) ps
+  pub signers : AllByRecursion (λ p. p.signer < boards f) ps
 
-module _ {S D L M : Type 0} (holds : S → ℕ → Slot) (digest : List ℕ → List ℕ) (tag_of : L → ℕ → List ℕ → List ℕ) where
+module _ {S D L : Type 0} (holds : S → ℕ → Slot) (digest : List ℕ → List ℕ) (tag_of : L → ℕ → List ℕ → List ℕ) where
   -- A board stands at commits cs, where us are the numbers that each client used and ps the shares of each version.
   -- `tag` is what its seal means, f how many boards may lie, own its number.
-  pub record Stands (tag : ℕ → List ℕ → List ℕ) (f own : ℕ) (b : Board S D L M) (cs : List (List WriteBody)) (us : ℕ → List ℕ) (ps : ℕ → List PairBody) : Type 0 where
+  pub record Stands (tag : ℕ → List ℕ → List ℕ) (f own : ℕ) (b : Board S D L) (cs : List (List WriteBody)) (us : ℕ → List ℕ) (ps : ℕ → List PairBody) : Type 0 where
     pub faults : b.place.f ≡ f
     pub number : b.place.number ≡ own
     pub seal : (s : ℕ) (m : List ℕ) → tag_of b.seal s m ≡ tag s m
@@ -37,5 +37,5 @@ module _ {S D L M : Type 0} (holds : S → ℕ → Slot) (digest : List ℕ → 
     pub none : (v : ℕ) → length cs < v → ps v ≡ []
 
   -- A board represents its history: it stands where the events have brought it.
-  abbrev pub Represents : (ℕ → List ℕ → List ℕ) → ℕ → ℕ → Board S D L M → List Event → Type 0
+  abbrev pub Represents : (ℕ → List ℕ → List ℕ) → ℕ → ℕ → Board S D L → List Event → Type 0
   Represents tag f own b h = Stands tag f own b (commits (effects h)) (λ c. used c (effects h)) (λ v. shares_of v (effects h))

@@ -1,6 +1,6 @@
 -- What a commit writes.
 use Rattle.std.specs.Prelude.{◌≡◌, ℕ, ◌≤◌, true, List, [], ◌∷◌, map, length, Some, None, Option}
-use Rattle.std.specs.List.{AllByRecursion as All}
+use Rattle.std.specs.List.{AllByRecursion}
 use Rattle.record.specs.Rules.{above}
 use Rattle.request.specs.Bodies.{WriteBody, write_item}
 use Rattle.history.specs.Events.{Event, effects}
@@ -15,9 +15,9 @@ Rises last (n ∷ ns) = (above last n ≡ true) × Rises (Some n) ns
 pub record WriteSet (ws : List WriteBody) : Type 0 where
   pub some : 1 ≤ length ws
   pub few : length ws ≤ 8
-  pub items : All (λ w. w.item ≤ 63) ws
+  pub items : AllByRecursion (λ w. w.item ≤ 63) ws
   pub rise : Rises None (map write_item ws)
 
 -- Each commit of a history is a write set.
 abbrev pub WriteSets : List Event → Type 0
-WriteSets h = All WriteSet (commits (effects h))
+WriteSets h = AllByRecursion WriteSet (commits (effects h))

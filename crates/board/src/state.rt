@@ -3,10 +3,7 @@ ghost use Rattle.std.specs.Prelude.{◌≡◌, ◌≤◌, length};
 ghost use Rattle.octets.specs.Numbers.{limit};
 
 use crate::size::Place;
-use digest::Digest;
 use numbers::clients::Clients;
-use seal::Seal;
-use store::Store;
 use window::ring::Window;
 
 pub mod calls;
@@ -17,7 +14,7 @@ pub mod shares;
 
 // One store, one digest and one seal; the commits so far are in the store, the count, the chain and the window.
 #[derive(Drop)]
-pub struct Board<S: Store, D: Digest, L: Seal> {
+pub struct Board<S, D, L> {
     store: S,
     digest: D,
     seal: L,

@@ -8,3 +8,4 @@ pub mod Marks
 pub mod Tables
 pub mod Lawfuls
 pub mod Determined
+pub mod Backs

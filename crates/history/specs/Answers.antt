@@ -1,6 +1,6 @@
 -- Which answer each call gives, from the history before it alone.
-use Rattle.std.specs.Prelude.{◌≡◌, ℕ, ◌+◌, ◌<◌, ◌≤◌, max, ◌⊎◌, List, [], ◌∷◌, ◌++◌, map, length, take, Ok, Err, Result}
-use Rattle.std.specs.List.{ContainsAt as Has, flat_map, AllByRecursion as All}
+use Rattle.std.specs.Prelude.{◌≡◌, ℕ, ◌+◌, ◌<◌, ◌≤◌, max, ◌⊎◌, List, [], ◌∷◌, ◌++◌, map, length, take, Ok, Result}
+use Rattle.std.specs.List.{ContainsAt as Has, flat_map, AllByRecursion}
 use Rattle.fault.specs.declared.Fault.{Fault}
 use Rattle.fault.specs.declared.Verdict.{Verdict}
 use Rattle.fault.specs.declared.Verdict.TheVariants.{Abort, Commit}
@@ -54,8 +54,8 @@ module _ (digest : List ℕ → List ℕ) (tag : ℕ → List ℕ → List ℕ) 
 
   -- the verdict: a commit, the next, exactly when every read passes
   abbrev pub Judged : List Effect → RequestBody → Verdict → ℕ → Type 0
-  Judged es b Commit version = All (Passes digest (commits es)) b.reads × (version ≡ length (commits es) + 1)
-  Judged es b Abort version = (All (Passes digest (commits es)) b.reads → ⊥) × (version ≡ 0)
+  Judged es b Commit version = AllByRecursion (Passes digest (commits es)) b.reads × (version ≡ length (commits es) + 1)
+  Judged es b Abort version = (AllByRecursion (Passes digest (commits es)) b.reads → ⊥) × (version ≡ 0)
 
   abbrev pub Delivers : List Effect → RequestBody → Delivery → Type 0
   Delivers es b d = Judged es b d.verdict d.version × (d.opened ≡ opens width (used b.client es))

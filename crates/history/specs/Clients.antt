@@ -1,5 +1,5 @@
 -- The sequence numbers that a client has used.
-use Rattle.std.specs.Prelude.{ℕ, Bool, cond, List, [], ◌∷◌, ◌++◌, ◌==◌}
+use Rattle.std.specs.Prelude.{ℕ, cond, List, [], ◌∷◌, ◌++◌, ◌==◌}
 use Rattle.history.specs.Events.{Effect, commit, abort, share, nothing}
 
 -- the number that an effect uses up for a client

@@ -1,6 +1,5 @@
 -- The commits of a board, and the state that they left.
-use Rattle.std.specs.Prelude.{◌≡◌, ℕ, ◌+◌, ◌-◌, ◌<◌, ◌≤◌, Bool, cond, ◌⊎◌, List, [], ◌∷◌, ◌++◌, length, take, replicate, Some, None, Option, ◌==◌, slice_index_or}
-use Rattle.std.specs.List.{AllByRecursion}
+use Rattle.std.specs.Prelude.{◌≡◌, ℕ, ◌+◌, ◌-◌, ◌<◌, ◌≤◌, cond, ◌⊎◌, List, [], ◌∷◌, ◌++◌, length, take, replicate, Some, None, Option, ◌==◌, slice_index_or}
 use Rattle.store.specs.Slot.{Slot}
 use Rattle.request.specs.Bodies.{ReadBody, WriteBody}
 use Rattle.history.specs.Events.{Effect, commit, abort, share, nothing}

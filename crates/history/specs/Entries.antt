@@ -1,5 +1,5 @@
 -- The entries of the commits, the chain over them, and the shares that joined them.
-use Rattle.std.specs.Prelude.{◌≡◌, ℕ, ◌+◌, ◌-◌, ◌<◌, ◌≤◌, max, Bool, cond, List, [], ◌∷◌, ◌++◌, map, length, replicate, Some, None, Option, ◌==◌, slice_index_or}
+use Rattle.std.specs.Prelude.{ℕ, ◌+◌, ◌-◌, ◌≤◌, cond, List, [], ◌∷◌, ◌++◌, map, replicate, Some, None, Option, ◌==◌, slice_index_or}
 use Rattle.std.specs.List.{range_with_len}
 use Rattle.entry.specs.Bodies.{EntryBody, ItemBody, PairBody, SealedBody, entry_bytes}
 use Rattle.window.specs.Shares.{pairs_of}

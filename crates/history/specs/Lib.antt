@@ -5,3 +5,4 @@ pub mod Clients
 pub mod Tables
 pub mod Answers
 pub mod Marks
+pub mod Backs

@@ -1,24 +1,22 @@
 -- The check's answers: what they say of the conditions, and so of the commits.
-use Rattle.std.proofs.Common.{◌≡◌, ℕ, ◌+◌, ◌<◌, ◌≤◌, max, ◌⊎◌, List, [], ◌∷◌, ◌++◌, map, length, Ok, Err, Result, sym, refl, ap, ◌∙◌, subst, inl, inr, arith}
-use Rattle.std.specs.List.{ContainsAt as Has, AllByRecursion as All}
+use Rattle.std.proofs.Common.{◌≡◌, ℕ, List, length, Ok, Err, Result, sym, refl, ap, ◌∙◌, subst}
+use Rattle.std.specs.List.{AllByRecursion as All}
 use Rattle.std.proofs.ByRecursion.{all-has}
 use Rattle.fault.specs.declared.Fault.{Fault}
-use Rattle.entry.specs.Bodies.{EntryBody, PairBody, SealedBody, entry_bytes}
+use Rattle.entry.specs.Bodies.{SealedBody}
 use Rattle.octets.specs.Numbers.{Bytes}
-use Rattle.record.specs.Formats.{written}
 use Rattle.proof.specs.Bodies.{ProofBody}
-use Rattle.entry.specs.Bodies.{pair_bytes, sealed_bytes}
+use Rattle.entry.specs.Bodies.{sealed_bytes}
 use Rattle.proof.specs.Rules.{entries_at, proof_of}
-use Rattle.reading.specs.Bodies.{ReadingItemBody, ReadingBody, reading_of}
-use Rattle.history.specs.Commits.{Left, left_after}
-use Rattle.history.specs.Entries.{entry_at, versions}
+use Rattle.reading.specs.Bodies.{ReadingItemBody, reading_of}
+use Rattle.history.specs.Commits.{Left}
 use Rattle.history.specs.Events.{width}
-use Rattle.history.specs.Tables.{Case, Read, Succeeds, Under, when}
-use Rattle.reader.specs.Checks.{CheckAnswers, Matched, NothingNewer, RightRange, Tagged, along, check_table, highest, item_rows, items_at, lowest, pair_rows, read_item_bytes, sealed_rows}
-use Rattle.reader.specs.Accepted.{AcceptedMeansHeld, AllTagged, Commits, FirstPart, Holds, HonestProof, HonestProofDecides, NoClash, Passed, Proven, Warrant, Warranted, entry_of, version_of}
+use Rattle.history.specs.Tables.{Case, Read, Succeeds, Under}
+use Rattle.reader.specs.Checks.{CheckAnswers, Matched, NothingNewer, Tagged, along, check_table, highest, item_rows, items_at, read_item_bytes, sealed_rows}
+use Rattle.reader.specs.Accepted.{AcceptedMeansHeld, Commits, Holds, HonestProofDecides, Passed}
 use Rattle.reader.proofs.Clear.{Clear, all_stable, all_unrefuted, along_clear, bytes_stable, clear_along, clear_answer, clear_append, clear_parts, eq_stable, le_stable, ok_clear, ok_err}
 use Rattle.reader.proofs.Lefts.{left-same}
-use Rattle.reader.proofs.Members.{all_from-has, has-map, has_unmap}
+use Rattle.reader.proofs.Members.{all_from-has}
 use Rattle.reader.proofs.Holding.{accepted-holds, holds_passed, own_genuine, passed_holds}
 use Rattle.reader.proofs.Proving.{read-proven}
 use Rattle.reader.proofs.Rows.{item_clear, sealed_clear, sealed_unrefuted}

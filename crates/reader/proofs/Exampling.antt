@@ -1,6 +1,6 @@
 -- The instance, by computing it.
-use Rattle.std.proofs.Common.{◌≡◌, ℕ, zero, suc, ◌+◌, ◌<◌, ◌≤◌, Bool, true, false, cond, eqb, ◌⊎◌, List, [], ◌∷◌, ◌++◌, length, get_or, take, replicate, Some, Ok, Err, Result, sym, refl, ap, ◌∙◌, subst, inl, inr, arith}
-use Rattle.std.specs.List.{ContainsAt as Has, AllByRecursion as All}
+use Rattle.std.proofs.Common.{◌≡◌, ℕ, zero, suc, ◌<◌, Bool, true, false, cond, eqb, List, [], ◌∷◌, get_or, take, replicate, Ok, Err, Result, sym, refl, ap, ◌∙◌, subst, arith}
+use Rattle.std.specs.List.{ContainsAt as Has}
 use Rattle.std.specs.List.Sorted.{IsStrictlyIncreasing}
 use Rattle.fault.specs.declared.Fault.{Fault}
 use Rattle.fault.specs.declared.Cause.TheVariants.{WrongTag}
@@ -11,7 +11,7 @@ use Rattle.digest.specs.Fnv.{fnv_words, hashed, step}
 use Rattle.label.specs.declared.Label.TheVariants.{Entry}
 use Rattle.label.specs.Labels.{labelled}
 use Rattle.seal.specs.Seals.{passes}
-use Rattle.entry.specs.Bodies.{EntryBody, SealedBody, entry_bytes}
+use Rattle.entry.specs.Bodies.{entry_bytes}
 use Rattle.proof.specs.Bodies.{ProofBody, proof_bytes}
 use Rattle.proof.specs.Rules.{proof_of}
 use Rattle.reading.specs.Bodies.{ReadingItemBody, ReadingBody, reading_of}
@@ -19,10 +19,10 @@ use Rattle.history.specs.Commits.{Left, Wrote, left_after, left_from, written}
 use Rattle.history.specs.Events.{width}
 use Rattle.history.specs.Tables.{Read, Under}
 use Rattle.reader.specs.Checks.{CheckAnswers, check_table, highest}
-use Rattle.reader.specs.Accepted.{FirstPart, Holds, HonestProof, HonestRuns, NoClash, NoForgery, Passed, Proven, Sealed}
-use Rattle.reader.specs.Example.{AcceptedAndRefused, commits, digest, faulty, first, forged, of, proof, read, reading, reading_bytes, sealed, second, signed, tag, wrong_proof, wrong_reading}
+use Rattle.reader.specs.Accepted.{FirstPart, Holds, HonestProof, Proven}
+use Rattle.reader.specs.Example.{AcceptedAndRefused, commits, digest, faulty, forged, proof, reading, reading_bytes, tag, wrong_proof, wrong_reading}
 use Rattle.reader.proofs.Lefts.{some_same}
-use Rattle.reader.proofs.Members.{has_cases, has_here, has-none}
+use Rattle.reader.proofs.Members.{has_here}
 use Rattle.reader.proofs.Clear.{clear_ok}
 use Rattle.reader.proofs.Holding.{holds_passed}
 use Rattle.reader.proofs.Accepting.{table_clear}

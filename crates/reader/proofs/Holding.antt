@@ -1,18 +1,17 @@
 -- What is accepted holds, and against an honest board's proof what holds is accepted.
-use Rattle.std.proofs.Common.{◌≡◌, ℕ, zero, suc, ◌+◌, ◌-◌, ◌<◌, ◌≤◌, min, max, ◌⊎◌, List, [], ◌∷◌, ◌++◌, map, length, get_or, take, Some, None, sym, refl, ap, ◌∙◌, subst, inl, inr, arith}
+use Rattle.std.proofs.Common.{◌≡◌, ℕ, ◌-◌, ◌<◌, ◌≤◌, ◌⊎◌, List, [], map, length, get_or, take, sym, refl, ap, ◌∙◌, subst, inl, inr, arith}
 use Rattle.std.specs.List.Sorted.{IsStrictlyIncreasing}
 use Rattle.std.specs.List.{ContainsAt as Has, AllByRecursion as All}
 use Rattle.std.proofs.ByRecursion.{all-has, All-weaker}
 use Rattle.std.proofs.lemmas.List.{get_or-take, length-take, length-map}
-use Rattle.std.proofs.lemmas.Bool.{cases_eq, cases_lt}
-use Rattle.entry.specs.Bodies.{EntryBody, ItemBody, PairBody, SealedBody}
-use Rattle.record.specs.Rules.{boards}
+use Rattle.std.proofs.lemmas.Bool.{cases_eq}
+use Rattle.entry.specs.Bodies.{EntryBody, ItemBody, SealedBody}
 use Rattle.proof.specs.Bodies.{ProofBody}
 use Rattle.reading.specs.Bodies.{ReadingItemBody}
 use Rattle.request.specs.Bodies.{WriteBody}
-use Rattle.history.specs.Commits.{Left, Wrote, left, left_after, written}
+use Rattle.history.specs.Commits.{Left, Wrote, left_after, written}
 use Rattle.history.specs.Entries.{entry_at, entry_of, recorded, signer_of, versions}
-use Rattle.reader.specs.Checks.{Matched, NothingNewer, RightRange, Tagged, Writes, highest, item_of, lowest}
+use Rattle.reader.specs.Checks.{Matched, NothingNewer, RightRange, Writes, highest, item_of}
 use Rattle.reader.specs.Accepted.{AllTagged, Commits, FirstPart, Holds, HonestProof, HonestRuns, Made, NoClash, NoForgery, Passed, Proven, Sealed, Warranted, version_of}
 use Rattle.reader.specs.Accepted as accepted
 use Rattle.reader.proofs.Lefts.{Leaves, leaves, leaves_once}

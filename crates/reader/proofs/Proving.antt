@@ -1,5 +1,5 @@
 -- A proof that its reader accepts: what the check may lean on.
-use Rattle.std.proofs.Common.{◌≡◌, ℕ, zero, suc, ◌+◌, ◌-◌, ◌<◌, ◌≤◌, true, List, [], ◌∷◌, ◌++◌, map, length, get_or, Some, None, Ok, Result, sym, refl, ap, ◌∙◌, subst, arith}
+use Rattle.std.proofs.Common.{◌≡◌, ℕ, zero, suc, ◌+◌, ◌<◌, List, [], ◌∷◌, ◌++◌, map, length, get_or, Some, None, Ok, Result, refl, ap, ◌∙◌, subst, arith}
 use Rattle.std.specs.List.{range_with_len, AllByRecursion, AllByRecursion as All}
 use Rattle.std.specs.List.Sorted.{IsStrictlyIncreasing}
 use Rattle.std.proofs.lemmas.Bool.{ltb-true}
@@ -8,8 +8,8 @@ use Rattle.fault.specs.declared.Layer.{Layer}
 use Rattle.fault.specs.declared.Layer.TheVariants.{Proof}
 use Rattle.octets.specs.Numbers.{Bytes}
 use Rattle.record.specs.Formats.{Field, written}
-use Rattle.record.specs.Rules.{Spot, boards, rising, spots}
-use Rattle.entry.specs.Bodies.{ItemBody, PairBody, SealedBody, entry_bytes}
+use Rattle.record.specs.Rules.{boards, rising, spots}
+use Rattle.entry.specs.Bodies.{PairBody, SealedBody, entry_bytes}
 use Rattle.ruled.specs.Standing.{Passes}
 use Rattle.ruled.proofs.Tables.{every-left, every_right}
 use Rattle.proof.specs.Bodies.{EntriesIn, ProofBody, item_fields, pair_fields}
@@ -17,9 +17,7 @@ use Rattle.entry.specs.Bodies.{sealed_bytes}
 use Rattle.proof.specs.Rules.{entries_at, item_number, item_spots, member_row, member_rows, pair_number, pair_spots, proof_of, rising_rows}
 use Rattle.proof.specs.Promises.{ProofAnswered, ProofKept}
 use Rattle.proof.proofs.Keeping.{reads}
-use Rattle.history.specs.Entries.{signer_of, versions}
 use Rattle.history.specs.Events.{width}
-use Rattle.reader.specs.Checks.{item_of}
 use Rattle.reader.specs.Accepted.{Proven, Sealed, version_of}
 
 climbs_more : (x y : ℕ) (ys : List ℕ) → x < y → IsStrictlyIncreasing (y ∷ ys) → IsStrictlyIncreasing (x ∷ y ∷ ys)

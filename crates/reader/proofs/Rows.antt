@@ -1,5 +1,5 @@
 -- A tag, an entry and an item read, and the rows over them.
-use Rattle.std.proofs.Common.{ℕ, ◌+◌, List, [], ◌∷◌, length}
+use Rattle.std.proofs.Common.{ℕ, ◌+◌, List, length}
 use Rattle.std.specs.List.{AllByRecursion as All}
 use Rattle.entry.specs.Bodies.{EntryBody, PairBody, SealedBody, entry_bytes}
 use Rattle.entry.specs.Bodies.{pair_bytes}

@@ -1,18 +1,18 @@
 -- What acceptance means: the items read are what the honest boards' commits left after the highest version read.
-use Rattle.std.specs.Prelude.{◌≡◌, ℕ, ◌+◌, ◌<◌, ◌≤◌, max, List, [], ◌∷◌, ◌++◌, map, length, take, Ok, Result}
+use Rattle.std.specs.Prelude.{◌≡◌, ℕ, ◌+◌, ◌<◌, ◌≤◌, List, map, length, take, Ok, Result}
 use Rattle.std.specs.List.Sorted.{IsStrictlyIncreasing}
-use Rattle.std.specs.List.{ContainsAt as Has, AllByRecursion as All}
+use Rattle.std.specs.List.{ContainsAt as Has, AllByRecursion}
 use Rattle.fault.specs.declared.Fault.{Fault}
 use Rattle.entry.specs.Bodies.{EntryBody, PairBody, SealedBody}
 use Rattle.record.specs.Rules.{boards}
 use Rattle.request.specs.Bodies.{WriteBody}
-use Rattle.history.specs.Commits.{Left, Wrote, left_after}
+use Rattle.history.specs.Commits.{Wrote, left_after}
 use Rattle.history.specs.Events.{width}
 use Rattle.history.specs.Entries.{entry_at, signer_of, versions}
 use Rattle.reading.specs.Bodies.{ReadingItemBody, ReadingBody, reading_of}
 use Rattle.proof.specs.Bodies.{ProofBody}
 use Rattle.proof.specs.Rules.{proof_of}
-use Rattle.reader.specs.Checks.{Matched, NothingNewer, RightRange, Tagged, highest, item_of, lowest}
+use Rattle.reader.specs.Checks.{Matched, NothingNewer, RightRange, Tagged, highest, item_of}
 
 -- the write sets of a board's commits
 abbrev pub Commits : Type 0
@@ -32,7 +32,7 @@ pub record Sealed (f : ℕ) (s : SealedBody) : Type 0 where
   pub items : IsStrictlyIncreasing (map item_of s.entry.items)
   pub quorum : length s.pairs ≡ f + 1
   pub signers : IsStrictlyIncreasing (map signer_of s.pairs)
-  pub members : All (λ (p : PairBody). p.signer < boards f) s.pairs
+  pub members : AllByRecursion (λ (p : PairBody). p.signer < boards f) s.pairs
 
 abbrev pub version_of : SealedBody → ℕ
 version_of s = s.entry.version
@@ -44,23 +44,23 @@ entry_of s = s.entry
 pub record Proven (f low high : ℕ) (es : List SealedBody) : Type 0 where
   pub from : 1 ≤ low
   pub each : map version_of es ≡ versions low high
-  pub sealed : All (Sealed f) es
+  pub sealed : AllByRecursion (Sealed f) es
 
 -- The reading holds: there are as many commits as the highest version read, and they left each item with the version and value read.
 abbrev pub Holds : Commits → List ReadingItemBody → Type 0
 Holds cs ps =
     (highest ps ≤ length cs)
-    × All (λ (p : ReadingItemBody). left_after (highest ps) cs p.item ≡ record { version = p.version; value = p.value }) ps
+    × AllByRecursion (λ (p : ReadingItemBody). left_after (highest ps) cs p.item ≡ record { version = p.version; value = p.value }) ps
 
 -- all tags of a proof pass
 abbrev pub AllTagged : (ℕ → List ℕ → List ℕ → Type 0) → List SealedBody → Type 0
-AllTagged passes es = All (λ (s : SealedBody). All (Tagged passes s.entry) s.pairs) es
+AllTagged passes es = AllByRecursion (λ (s : SealedBody). AllByRecursion (Tagged passes s.entry) s.pairs) es
 
 module _ (digest : List ℕ → List ℕ) where
   -- Premise on digests: no value read and value that the commit of its version wrote to the item differ and share a digest.
   abbrev pub NoClash : Commits → List ReadingItemBody → Type 0
   NoClash cs ps =
-      All (λ (p : ReadingItemBody). (w : List ℕ) → Wrote cs p.version p.item w → digest p.value ≡ digest w → p.value ≡ w) ps
+      AllByRecursion (λ (p : ReadingItemBody). (w : List ℕ) → Wrote cs p.version p.item w → digest p.value ≡ digest w → p.value ≡ w) ps
 
   -- a board with these commits made the entry: it has as many commits, and this is its entry of that version
   abbrev pub Made : Commits → EntryBody → Type 0
@@ -70,14 +70,14 @@ module _ (digest : List ℕ → List ℕ) where
     -- Premise on tags: of those in this proof, none passes as an honest board's over an entry that this board did not make.
     abbrev pub NoForgery : List ℕ → (ℕ → Commits) → List SealedBody → Type 0
     NoForgery faulty of es =
-        All (λ (s : SealedBody). All (λ (p : PairBody). (Has faulty p.signer → ⊥) → Tagged passes s.entry p → Made (of p.signer) s.entry) s.pairs) es
+        AllByRecursion (λ (s : SealedBody). AllByRecursion (λ (p : PairBody). (Has faulty p.signer → ⊥) → Tagged passes s.entry p → Made (of p.signer) s.entry) s.pairs) es
 
     -- every condition of the check behind the two frames' readers
     pub record Passed (low high : ℕ) (es : List SealedBody) (ps : List ReadingItemBody) : Type 0 where
       pub range : RightRange low high ps
       pub tags : AllTagged passes es
-      pub matched : All (Matched digest es) ps
-      pub fresh : All (NothingNewer es) ps
+      pub matched : AllByRecursion (Matched digest es) ps
+      pub fresh : AllByRecursion (NothingNewer es) ps
 
     -- The reading holds if no honest board's tag was forged and no two digests clash, whichever boards are faulty.
     abbrev pub Warranted : ℕ → List SealedBody → List ReadingItemBody → Type 0

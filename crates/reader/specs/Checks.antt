@@ -1,6 +1,6 @@
 -- The reader's check: which proof it asks for, what it asks of each tag and of each item read, and its answer.
 use Rattle.std.specs.Prelude.{◌≡◌, ℕ, ◌+◌, ◌<◌, ◌≤◌, min, max, ◌⊎◌, List, [], ◌∷◌, ◌++◌, map, length, Result}
-use Rattle.std.specs.List.{ContainsAt as Has, AllByRecursion as All}
+use Rattle.std.specs.List.{ContainsAt as Has, AllByRecursion}
 use Rattle.fault.specs.declared.Fault.{Fault}
 use Rattle.fault.specs.declared.Cause.TheVariants.{Stale, Unmatched, WrongRange, WrongTag}
 use Rattle.fault.specs.declared.Layer.TheVariants.{Reader, Seal}
@@ -9,8 +9,7 @@ use Rattle.label.specs.declared.Label.TheVariants.{Entry}
 use Rattle.label.specs.Labels.{labelled}
 use Rattle.entry.specs.Bodies.{EntryBody, ItemBody, PairBody, SealedBody, entry_bytes}
 use Rattle.record.specs.Formats.{written}
-use Rattle.reading.specs.Bodies.{ReadingItemBody, ReadingBody, reading_item_fields, reading_of}
-use Rattle.proof.specs.Bodies.{ProofBody}
+use Rattle.reading.specs.Bodies.{ReadingItemBody, reading_item_fields, reading_of}
 use Rattle.entry.specs.Bodies.{pair_bytes, sealed_bytes}
 use Rattle.proof.specs.Rules.{entries_at, proof_of}
 use Rattle.history.specs.Events.{width}
@@ -46,7 +45,7 @@ Matched digest es p =
 
 -- Second predicate: no entry above the version read writes the item.
 abbrev pub NothingNewer : List SealedBody → ReadingItemBody → Type 0
-NothingNewer es p = All (λ (s : SealedBody). p.version < s.entry.version → Writes s.entry p.item → ⊥) es
+NothingNewer es p = AllByRecursion (λ (s : SealedBody). p.version < s.entry.version → Writes s.entry p.item → ⊥) es
 
 -- A tag passes for its signer over the entry under its label; `passes` says which tags pass for a signer and a string.
 abbrev pub Tagged : (ℕ → List ℕ → List ℕ → Type 0) → EntryBody → PairBody → Type 0

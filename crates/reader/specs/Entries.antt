@@ -4,7 +4,6 @@ use Rattle.std.specs.List.{ContainsAt as Has}
 use Rattle.entry.specs.Bodies.{EntryBody, SealedBody}
 use Rattle.proof.specs.Parts.{PartHolds}
 use Rattle.proof.specs.declared.part.SealedPart.{SealedPart}
-use Rattle.reader.specs.Checks.{Writes}
 
 -- an entry has an item with a digest
 abbrev pub Records : EntryBody → ℕ → List ℕ → Type 0

@@ -1,7 +1,6 @@
 -- An instance in which every premise of acceptance holds: two commits, and a faulty board whose tags stand in the accepted proof.
 -- The digest is FNV-1a and the seal SipHash, where each byte of a signer's key is the signer's number.
-use Rattle.std.specs.Prelude.{◌≡◌, ℕ, cond, List, [], ◌∷◌, ◌++◌, take, replicate, Ok, Err, ◌==◌}
-use Rattle.std.specs.List.{ContainsAt as Has}
+use Rattle.std.specs.Prelude.{ℕ, cond, List, [], ◌∷◌, take, replicate, Ok, Err, ◌==◌}
 use Rattle.fault.specs.declared.Cause.TheVariants.{WrongTag}
 use Rattle.fault.specs.declared.Layer.TheVariants.{Seal}
 use Rattle.fault.specs.Codes.{fault}

@@ -1,6 +1,6 @@
 -- What is asked of the items read, as they stand in the frame, against the entries of a proof.
 use Rattle.std.specs.Prelude.{◌≡◌, ℕ, ◌<◌, ◌≤◌, ◌⊎◌, List, length, Some, None, Option, Result}
-use Rattle.std.specs.List.{AllByRecursion as All}
+use Rattle.std.specs.List.{AllByRecursion}
 use Rattle.fault.specs.declared.Cause.{Cause}
 use Rattle.fault.specs.declared.Cause.TheVariants.{Stale, Unmatched}
 use Rattle.fault.specs.declared.Fault.{Fault}
@@ -38,7 +38,7 @@ pub record Judged (reading : Reading) (proof : Proof) (bs : List ℕ) (f : ℕ) 
   pub holds : Holds f proof b
   pub proven : Proven f b.low b.high b.entries
   pub range : RightRange b.low b.high (held reading).items
-  pub short : All (λ (p : ReadingItemBody). length p.value ≤ 65535) (held reading).items
+  pub short : AllByRecursion (λ (p : ReadingItemBody). length p.value ≤ 65535) (held reading).items
 
 -- the items of a whole reading
 abbrev pub JudgesItems : (List ℕ → List ℕ) → Reading → Proof → Result (Unit {0}) Fault → Type 0

@@ -1,5 +1,6 @@
 // The reader's check: a reading is judged against a proof, the entries of the boards with their tags.
 #![tactic(auto)]
+
 mod entries;
 mod items;
 pub mod range;

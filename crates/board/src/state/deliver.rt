@@ -1,6 +1,6 @@
 // Deliver: a request is checked, judged, and then committed or aborted.
 ghost use Rattle.std.specs.Prelude.{◌≡◌, ℕ, ◌+◌, ◌<◌, ◌≤◌, List, [], ◌∷◌, ◌++◌, length, Decides, OnOk, ◌≢◌};
-ghost use Rattle.std.specs.List.{AllByRecursion as All};
+ghost use Rattle.std.specs.List.{AllByRecursion};
 ghost use Rattle.octets.specs.Numbers.{limit};
 ghost use Rattle.digest.specs.Meaning.{written};
 ghost use Rattle.entry.specs.Bodies.{entry_body};
@@ -11,15 +11,16 @@ ghost use Rattle.history.specs.Entries.{chain_string, entry_of};
 ghost use Rattle.history.specs.Events.{Event, delivered, effects};
 ghost use Rattle.history.specs.Tables.{Under};
 ghost use Rattle.board.specs.Standing.{Represents};
+ghost use Rattle.board.specs.WriteSets.{WriteSets};
 ghost use Rattle.board.specs.Delivering.{Agrees, Committed, Installed, KeptOnRefusal, Shaped, checks, read_said, row_of};
 
 use super::Board;
-use octets::LIMIT;
 use digest::Digest;
 use entry::parts::{Entry, ItemDigest};
 use fault::{Cause, Fault, Layer, Verdict};
 use history::Delivery;
 use label::Label;
+use octets::LIMIT;
 use request::{Read, Request, read_request};
 use seal::{Seal, client_signer};
 use store::Store;
@@ -160,7 +161,7 @@ impl<S: Store, D: Digest, L: Seal> Board<S, D, L> {
     // Whether every read agrees with what the store holds.
     fn judge(&self, request: Request<'_>) -> bool
         requires { Shaped request }
-        ensures { Decides result (All (Agrees (λ m. written (D.Digest.of m)) (S.Store.holds self.now.store)) (held request.entry).reads) }
+        ensures { Decides result (AllByRecursion (Agrees (λ m. written (D.Digest.of m)) (S.Store.holds self.now.store)) (held request.entry).reads) }
     {
         for i in 0..request.plan.top.reads as usize {
             if let Some(read) = request.read(i) {
@@ -191,6 +192,7 @@ impl<S: Store, D: Digest, L: Seal> Board<S, D, L> {
     // Every read is judged before a write is installed; a refusal leaves the board as it was.
     pub fn deliver(&mut self, frame: &[u8]) -> Result<Delivery, Fault>
         ensures history { (tag : ℕ → List ℕ → List ℕ) (f own : ℕ) (h : List Event) → Represents S.Store.holds (λ m. written (D.Digest.of m)) L.Seal.tag tag f own self.old h → Answered (λ m. written (D.Digest.of m)) tag f own (effects h) (delivered frame.now result) × Represents S.Store.holds (λ m. written (D.Digest.of m)) L.Seal.tag tag f own self.new (h ++ delivered frame.now result ∷ []) }
+        ensures sets { (h : List Event) → WriteSets h → WriteSets (h ++ delivered frame.now result ∷ []) }
         ensures refused { KeptOnRefusal self.old self.new result }
     {
         let request = read_request(frame)?;

@@ -1,4 +1,4 @@
-use Rattle.std.proofs.Common.{◌≡◌, true, false}
+use Rattle.std.proofs.Common.{false}
 use Rattle.std.proofs.lemmas.Slice.Eq.{slice_eq-Decides}
 use Rattle.std.proofs.lemmas.Bool.{both_ways}
 use Rattle.reader.specs.Entries.{Records}
@@ -10,11 +10,11 @@ use Rattle.std.proofs.lemmas.Bool.Decides.{Decides-eqb}
 pub loop-k-init : goal.loop-k-init
 loop-k-init c = none_first (Recorded c.args.item c.args.digest.now) c.args.part
 
-pub returns-in-default : goal.returns-in-default
-returns-in-default c =
+pub returns-in_default : goal.returns-in_default
+returns-in_default c =
     let x = c.args.item in
     let d = c.args.digest.now in
-    missing_tells (Recorded x d) c.args.part (λ e. Records e x d) (to_record x d) (from_record x d) c.loop-k.k c.loop-k-test.true c.in-default.ensures.found false
+    missing_tells (Recorded x d) c.args.part (λ e. Records e x d) (to_record x d) (from_record x d) c.loop-k.k c.loop-k-test.true c.in_default.ensures.found false
 
 pub returns-then-eq : goal.returns-then-eq
 returns-then-eq c =

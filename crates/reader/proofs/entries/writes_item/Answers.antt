@@ -6,8 +6,8 @@ use Rattle.reader.proofs.entries.writes_item.Goals as goal
 pub loop-k-init : goal.loop-k-init
 loop-k-init c = none_first (Item c.args.item) c.args.part
 
-pub returns-in-default : goal.returns-in-default
-returns-in-default c = missing_tells (Item c.args.item) c.args.part (λ e. Writes e c.args.item) (to_item c.args.item) (from-item c.args.item) c.loop-k.k c.loop-k-test.true c.in-default.ensures.found false
+pub returns-in_default : goal.returns-in_default
+returns-in_default c = missing_tells (Item c.args.item) c.args.part (λ e. Writes e c.args.item) (to_item c.args.item) (from-item c.args.item) c.loop-k.k c.loop-k-test.true c.in_default.ensures.found false
 
 pub returns-then-write-item : goal.returns-then-write-item
 returns-then-write-item c =

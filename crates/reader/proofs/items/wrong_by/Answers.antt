@@ -5,13 +5,13 @@ use Rattle.reader.proofs.items.wrong_by.Goals as goal
 pub returns-then-part-read : goal.returns-then-part-read
 returns-then-part-read c = λ f at s holds. let v = holds.version in (λ e. absurd (omega arith), λ lt w. omega arith)
 
-pub returns-then-writes-item : goal.returns-then-writes-item
-returns-then-writes-item c = λ f at s holds. let v = holds.version in inr (refl, omega arith, (c.writes-item.ensures f at s holds).0 c.if-writes-item.true)
+pub returns-then-writes_item : goal.returns-then-writes_item
+returns-then-writes_item c = λ f at s holds. let v = holds.version in inr (refl, omega arith, (c.writes_item.ensures f at s holds).0 c.if-writes_item.true)
 
 pub returns-then-part-read-2 : goal.returns-then-part-read-2
 returns-then-part-read-2 c = λ f at s holds.
     let v = holds.version in
-    (λ e. absurd (omega arith), λ lt w. both_ways c.writes-item.result c.if-writes-item.false ((c.writes-item.ensures f at s holds).1 w))
+    (λ e. absurd (omega arith), λ lt w. both_ways c.writes_item.result c.if-writes_item.false ((c.writes_item.ensures f at s holds).1 w))
 
 pub returns-then-not-records : goal.returns-then-not-records
 returns-then-not-records c = λ f at s holds.

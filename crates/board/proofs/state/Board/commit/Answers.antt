@@ -1,4 +1,4 @@
-use Rattle.std.proofs.Common.{◌≡◌, ℕ, List, refl, ap, ◌∙◌}
+use Rattle.std.proofs.Common.{ℕ, List, refl, ap, ◌∙◌}
 use Rattle.digest.specs.Meaning.{written}
 use Rattle.history.specs.Entries.{chain_string}
 use Rattle.board.proofs.state.Board.commit.Goals as goal
@@ -13,10 +13,10 @@ returns g c =
         seal = refl;
         clients = refl;
         count = refl;
-        chain = c.next-chain-chain.ensures ∙ ap (λ e. dig (chain_string dig c.args.self.now.chain e)) c.make-entry-entry.ensures;
-        items = c.install-all.ensures;
-        entry = c.make-entry-entry.result;
+        chain = c.next_chain-chain.ensures ∙ ap (λ e. dig (chain_string dig c.args.self.now.chain e)) c.make_entry-entry.ensures;
+        items = c.install_all.ensures;
+        entry = c.make_entry-entry.result;
         window = c.keep.ensures;
-        body = c.make-entry-entry.ensures;
+        body = c.make_entry-entry.ensures;
       };
     }

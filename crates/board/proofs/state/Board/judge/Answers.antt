@@ -1,4 +1,4 @@
-use Rattle.std.proofs.Common.{◌≡◌, ℕ, List, ◌∙◌}
+use Rattle.std.proofs.Common.{◌∙◌}
 use Rattle.std.proofs.lemmas.Bool.{both_ways}
 use Rattle.digest.specs.Meaning.{written}
 use Rattle.request.specs.Bodies.{ReadBody}
@@ -8,7 +8,7 @@ use Rattle.request.specs.Requests.{held}
 use Rattle.board.specs.Delivering.{Agrees, read_said}
 use Rattle.board.proofs.DeliverLoops.{few-counted, found_none, found_some, scan_ends, scan_fails, scan-more, scan_past}
 use Rattle.board.proofs.state.Board.judge.Goals as goal
-use Rattle.board.proofs.state.Board.judge.Goals.{in-Some+else-not-agrees, in-default}
+use Rattle.board.proofs.state.Board.judge.Goals.{in-Some+else-not-agrees, in_default}
 
 pub returns-then-not-agrees : goal.returns-then-not-agrees
 returns-then-not-agrees g c =
@@ -29,8 +29,8 @@ loop-i-preserved g c =
           let r = w.in-Some.read in
           let at = found_some (read_body 2 q.frame.now) read_place (planned q.plan).reads i (read_said r) r.place (w.in-Some.ensures.answer ∙ c.requires.each_read i) in
           scan-more P (held q).reads i (read_said r) at.0 at.1 (w.agrees.ensures.0 w.if-not-agrees.false) c.loop-i.invariant
-      | in-default w ↦
-          scan_past P (held q).reads i (found_none (read_body 2 q.frame.now) read_place (planned q.plan).reads i (w.in-default.ensures.answer ∙ c.requires.each_read i)) c.loop-i.invariant
+      | in_default w ↦
+          scan_past P (held q).reads i (found_none (read_body 2 q.frame.now) read_place (planned q.plan).reads i (w.in_default.ensures.answer ∙ c.requires.each_read i)) c.loop-i.invariant
     ]
 
 pub returns : goal.returns

@@ -4,11 +4,11 @@ use Rattle.board.proofs.state.Board.share_in.Goals as goal
 
 pub returns : goal.returns
 returns g c =
-    let s = c.read-and-take.ensures in
+    let s = c.read_and_take.ensures in
     record {
       answer = s.answer;
       refused = s.refused;
       rest = s.rest;
-      history = λ tag f own h st. share_in_told g.S.Store.holds (λ m. written (g.D.Digest.of m)) g.L.Seal.tag tag f own c.args.self.now c.read-and-take.new.self h c.args.frame.now st
-          c.read-and-take.result s.answer s.reads s.refused s.rest;
+      history = λ tag f own h st. share_in_told g.S.Store.holds (λ m. written (g.D.Digest.of m)) g.L.Seal.tag tag f own c.args.self.now c.read_and_take.new.self h c.args.frame.now st
+          c.read_and_take.result s.answer s.reads s.refused s.rest;
     }

@@ -1,4 +1,4 @@
-use Rattle.std.proofs.Common.{◌≡◌, ℕ, ◌<◌, ◌≤◌, List, length, sym, ap, ◌∙◌, arith}
+use Rattle.std.proofs.Common.{ℕ, ◌<◌, ◌≤◌, List, length, sym, ap, ◌∙◌, arith}
 use Rattle.digest.specs.Meaning.{written}
 use Rattle.request.specs.Bodies.{WriteBody, WriteIn}
 use Rattle.request.specs.Marks.{write_body, write_place}
@@ -11,7 +11,7 @@ use Rattle.history.proofs.Writes.{install_all, install_more, install_none}
 use Rattle.board.specs.Delivering.{row_of}
 use Rattle.board.proofs.DeliverLoops.{every_at, few-counted, found_none, found_some, take_past}
 use Rattle.board.proofs.state.deliver.install_all.Goals as goal
-use Rattle.board.proofs.state.deliver.install_all.Goals.{in-Some, in-default}
+use Rattle.board.proofs.state.deliver.install_all.Goals.{in-Some, in_default}
 
 pub digested-made-requires : goal.digested-made-requires
 digested-made-requires g c =
@@ -42,11 +42,11 @@ loop-i-preserved g c =
           let below : one.item < 64 = omega arith in
           λ x l e.
           ap (λ s. g.S.Store.holds s x) w.store-is
-          ∙ install_more (kept dig) k (held q).writes x l i one (g.S.Store.holds c.loop-i.store x) (g.S.Store.holds w.install-one.new.store x) at.0 at.1 (c.loop-i.invariant x l e)
-          (λ same. ap (g.S.Store.holds w.install-one.new.store) same ∙ w.install-one.ensures.sets below fits.value ∙ ap (row_of k one.value) w.digested-made.ensures ∙ sym (kept-write dig k one.value c.requires.1))
-          (λ ne. w.install-one.ensures.others x ne)
-      | in-default w ↦
-          let past = take_past (held q).writes i (found_none (write_body q.frame.now) write_place (planned q.plan).writes i (w.in-default.ensures.answer ∙ c.requires.0.each_write i)) in
+          ∙ install_more (kept dig) k (held q).writes x l i one (g.S.Store.holds c.loop-i.store x) (g.S.Store.holds w.install_one.new.store x) at.0 at.1 (c.loop-i.invariant x l e)
+          (λ same. ap (g.S.Store.holds w.install_one.new.store) same ∙ w.install_one.ensures.sets below fits.value ∙ ap (row_of k one.value) w.digested-made.ensures ∙ sym (kept-write dig k one.value c.requires.1))
+          (λ ne. w.install_one.ensures.others x ne)
+      | in_default w ↦
+          let past = take_past (held q).writes i (found_none (write_body q.frame.now) write_place (planned q.plan).writes i (w.in_default.ensures.answer ∙ c.requires.0.each_write i)) in
           λ x l e.
           ap (λ s. g.S.Store.holds s x) w.store-is ∙ c.loop-i.invariant x l e ∙ ap (λ ws. kept dig (leave k (commits.written ws x) l)) (sym past)
     ]

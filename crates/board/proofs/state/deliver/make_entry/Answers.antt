@@ -9,7 +9,7 @@ use Rattle.request.specs.Requests.{held}
 use Rattle.history.specs.Entries.{entry_of, recorded}
 use Rattle.board.proofs.DeliverLoops.{entry_more, every_at, few-counted, found_none, found_some, take_past}
 use Rattle.board.proofs.state.deliver.make_entry.Goals as goal
-use Rattle.board.proofs.state.deliver.make_entry.Goals.{in-Some-write, in-default}
+use Rattle.board.proofs.state.deliver.make_entry.Goals.{in-Some-write, in_default}
 
 pub digested-made-requires : goal.digested-made-requires
 digested-made-requires g c =
@@ -38,9 +38,9 @@ loop-i-preserved g c =
           ap entry_body w.built-is
           ∙ entry_more dig c.args.version (held q).writes i one c.loop-i.built w.push.new.self x w.push.result at.0 at.1 c.requires.0.few c.loop-i.invariant
           w.push.ensures.0 w.push.ensures.1 same
-      | in-default w ↦
+      | in_default w ↦
           ap entry_body w.built-is ∙ c.loop-i.invariant
-          ∙ ap (entry_of dig c.args.version) (sym (take_past (held q).writes i (found_none (write_body q.frame.now) write_place (planned q.plan).writes i (w.in-default.ensures.answer ∙ c.requires.0.each_write i))))
+          ∙ ap (entry_of dig c.args.version) (sym (take_past (held q).writes i (found_none (write_body q.frame.now) write_place (planned q.plan).writes i (w.in_default.ensures.answer ∙ c.requires.0.each_write i))))
     ]
 
 pub returns : goal.returns

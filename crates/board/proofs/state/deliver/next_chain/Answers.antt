@@ -10,8 +10,8 @@ pub unreachable-requires : goal.unreachable-requires
 unreachable-requires g c =
     let body = entry_bytes 2 (entry_body c.args.entry.now) in
     let long : 267 < length body = c.in-None.ensures.0 in
-    let is : c.body-length-n.result ≡ length body = c.body-length-n.ensures.0 in
-    let few : c.body-length-n.result ≤ 267 = c.body-length-n.ensures.1 in
+    let is : c.body_length-n.result ≡ length body = c.body_length-n.ensures.0 in
+    let few : c.body_length-n.result ≤ 267 = c.body_length-n.ensures.1 in
     omega arith
 
 pub returns : goal.returns
@@ -20,5 +20,5 @@ returns g c =
     c.digested.ensures
     ∙ ap (λ m. written (g.D.Digest.of m))
     (glue _ _ (label_bytes Chain) c.args.chain.now body
-    (chain_head c.copy-from-slice.new.self c.copy-from-slice-2.new.self c.args.chain.now (c.copy-from-slice.ensures.after ∙ c.bytes-label.ensures.bytes) c.copy-from-slice-2.ensures.after)
-    (body_front c.body-length-n.result body (replicate 267 0) c.write-body.new.out c.body-length-n.ensures.0 c.in-Some.ensures.3))
+    (chain_head c.copy_from_slice.new.self c.copy_from_slice-2.new.self c.args.chain.now (c.copy_from_slice.ensures.after ∙ c.bytes-label.ensures.bytes) c.copy_from_slice-2.ensures.after)
+    (body_front c.body_length-n.result body (replicate 267 0) c.write_body.new.out c.body_length-n.ensures.0 c.in-Some.ensures.3))

@@ -5,7 +5,7 @@ use Rattle.board.proofs.state.shares.put_body.Goals as goal
 
 pub returns : goal.returns
 returns c = record {
-  bound = c.body-length-n.ensures.1;
-  body = body_front (entry_bytes 2 (entry_body c.args.entry)) c.args.out.now c.write-body-written.new.out c.write-body-written.result
-      c.body-length-n.result c.body-length-n.ensures.0 (omega (arith, c.body-length-n.ensures.1, c.requires)) c.write-body-written.ensures;
+  bound = c.body_length-n.ensures.1;
+  body = body_front (entry_bytes 2 (entry_body c.args.entry)) c.args.out.now c.write_body-written.new.out c.write_body-written.result
+      c.body_length-n.result c.body_length-n.ensures.0 (omega (arith, c.body_length-n.ensures.1, c.requires)) c.write_body-written.ensures;
 }

@@ -10,6 +10,6 @@ returns g c =
     let digest : List ℕ → List ℕ = λ m. written (g.D.Digest.of m) in
     record {
       answer = c.examine.ensures;
-      held = accepted_means_held digest (passes (g.L.Seal.tag self.seal)) self.size.f c.args.reading.now c.args.proof.now c.examine.result (λ i. (c.type-inv.proof i).fits) c.examine.ensures;
-      decides = honest-proof_decides digest (passes (g.L.Seal.tag self.seal)) self.size.f c.args.reading.now c.args.proof.now c.examine.result (λ i. (c.type-inv.proof i).fits) c.examine.ensures;
+      held = accepted_means_held digest (passes (g.L.Seal.tag self.seal)) self.size.f c.args.reading.now c.args.proof.now c.examine.result (λ i. (c.type_inv.proof i).fits) c.examine.ensures;
+      decides = honest-proof_decides digest (passes (g.L.Seal.tag self.seal)) self.size.f c.args.reading.now c.args.proof.now c.examine.result (λ i. (c.type_inv.proof i).fits) c.examine.ensures;
     }
