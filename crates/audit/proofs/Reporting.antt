@@ -26,8 +26,8 @@ pub no_stranger : (P : Report → Type 0) (reports : List Report) (b n : ℕ) �
 no_stranger P reports b n members high at =
     let mine = of_all P (λ (r : Report). r.board < 16) reports b n members at in omega (arith, mine.1.0, mine.1.1)
 
-module _ {S D L M : Type 0} (holds : S → ℕ → Slot) (digest : List ℕ → List ℕ) (tag_of : L → ℕ → List ℕ → List ℕ) (tag : ℕ → List ℕ → List ℕ) (f own : ℕ)
-    (a : Audit S D L M) (h : List Event) (reports : List Report) (st : Represents holds digest tag_of tag f own a h reports) (b count : ℕ) (chain : List ℕ) where
+module _ {S D L : Type 0} (holds : S → ℕ → Slot) (digest : List ℕ → List ℕ) (tag_of : L → ℕ → List ℕ → List ℕ) (tag : ℕ → List ℕ → List ℕ) (f own : ℕ)
+    (a : Audit S D L) (h : List Event) (reports : List Report) (st : Represents holds digest tag_of tag f own a h reports) (b count : ℕ) (chain : List ℕ) where
   -- the replay's mark is that of its commits
   pub rightly : (right : Bool) → Decides right ((count ≡ a.board.count) × (chain ≡ a.board.chain)) → Decides right (RightMark digest (report_of h b count chain))
   rightly right tells = (
@@ -47,7 +47,7 @@ module _ {S D L M : Type 0} (holds : S → ℕ → Slot) (digest : List ℕ → 
         tracks = λ k lt. elim (cases_eq k b) [
           | inl e ↦
               let P : Track → Type 0 = λ x. Tracks digest x (reports ++ last ∷ []) b in
-              let Q : ℕ → Type 0 = λ m. Tracks digest (track_of {S = S} {D = D} {L = L} {M = M} (record { board = a.board; reports = number; tracks = set a.tracks b t }) m) (reports ++ last ∷ []) m in
+              let Q : ℕ → Type 0 = λ m. Tracks digest (track_of {S = S} {D = D} {L = L} (record { board = a.board; reports = number; tracks = set a.tracks b t }) m) (reports ++ last ∷ []) m in
               subst Q (sym e) (subst P (sym (get_or-set_same a.tracks b t no_track there)) kept)
           | inr ne ↦
               let P : Track → Type 0 = λ x. Tracks digest x (reports ++ last ∷ []) k in

@@ -1,9 +1,6 @@
 // What an audit is made of.
 use crate::track::Track;
 use board::state::Board;
-use digest::Digest;
-use seal::Seal;
-use store::Store;
 
 pub mod calls;
 pub mod looks;
@@ -13,7 +10,7 @@ pub const BOARDS: usize = 16;
 
 // The board that requests are replayed on, how many reports were judged, and what is kept of each board's.
 #[derive(Drop)]
-pub struct Audit<S: Store, D: Digest, L: Seal> {
+pub struct Audit<S, D, L> {
     board: Board<S, D, L>,
     reports: u32,
     tracks: [Track; BOARDS],

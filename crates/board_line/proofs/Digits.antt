@@ -1,5 +1,5 @@
 -- Digits to bytes and bytes to digits, two digits at a time.
-use Rattle.std.proofs.Common.{◌≡◌, ℕ, suc, ◌+◌, ◌*◌, ◌%◌, ◌<◌, ◌≤◌, ◌≢◌, List, [], ◌∷◌, ◌++◌, length, get_or, take, drop, set, Some, None, Option, sym, refl, ap, ◌∙◌, append_assoc, add-one, arith, length-append, drop-cons}
+use Rattle.std.proofs.Common.{◌≡◌, ℕ, suc, ◌+◌, ◌*◌, ◌%◌, ◌<◌, ◌≤◌, List, [], ◌∷◌, ◌++◌, length, get_or, take, drop, set, Some, None, Option, sym, refl, ap, ◌∙◌, append_assoc, arith, length-append, drop-cons}
 use Rattle.std.proofs.lemmas.List.{append-nil, flat_map_more, set_at, take_more, take_more_set}
 use Rattle.board_line.specs.Hex.{before, byte_digits, digit_value, hex, paired, unhex}
 

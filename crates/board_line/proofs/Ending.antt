@@ -1,5 +1,5 @@
 -- The end of an input.
-use Rattle.std.proofs.Common.{◌≡◌, ℕ, false, eqb, List, [], ◌∷◌, length, refl}
+use Rattle.std.proofs.Common.{◌≡◌, ℕ, false, eqb, List, [], ◌∷◌, length}
 use Rattle.std.proofs.lemmas.Bool.{true≢false}
 use Rattle.board_line.specs.declared.serve.Step.{Step}
 use Rattle.board_line.specs.Serves.{Ends, Finishes}

@@ -21,7 +21,7 @@ pub shared_changes : {B : Type 0} (before after : B) (frame : List ℕ) (r : Res
 shared_changes before after frame (Ok n) kept = tt
 shared_changes before after frame (Err f) kept = kept
 
-module _ {S D L M : Type 0} (holds : S → ℕ → Slot) (digest : List ℕ → List ℕ) (tag_of : L → ℕ → List ℕ → List ℕ) (before after : Board S D L M) where
+module _ {S D L : Type 0} (holds : S → ℕ → Slot) (digest : List ℕ → List ℕ) (tag_of : L → ℕ → List ℕ → List ℕ) (before after : Board S D L) where
   -- the same call, by another name
   pub served_as : (bytes : List ℕ) (a b : Option LineCall) → a ≡ b → ServedBytes holds digest tag_of b before after bytes → ServedBytes holds digest tag_of a before after bytes
   served_as bytes a b same served = (let P : Option LineCall → Type 0 = λ o. ServedBytes holds digest tag_of o before after bytes in subst P (sym same) served)

@@ -2,9 +2,11 @@
 use Rattle.std.specs.Prelude.{◌≡◌, ℕ, ◌+◌, ◌*◌, List, [], ◌∷◌, ◌++◌, length, Some, None, Ok, Err, Option}
 use Rattle.store.specs.Slot.{Slot}
 use Rattle.history.specs.Answers.{Answered}
+use Rattle.history.specs.Backs.{EventReadsBack}
 use Rattle.history.specs.Events.{Event, asked, delivered, effects, marked, proved, shared_in, shared_out, width}
 use Rattle.board.specs.declared.state.Board.{Board}
 use Rattle.board.specs.Standing.{Represents}
+use Rattle.board.specs.WriteSets.{WriteSets}
 use Rattle.board_line.specs.Hex.{hex}
 use Rattle.board_line.specs.Lines.{LineCall, deliver, item, line_call, mark, proof, share_in, share_out}
 use Rattle.board_line.specs.Replies.{event_bytes, no_call_bytes}
@@ -43,23 +45,23 @@ Changes before after (shared_in frame (Err f)) = after ≡ before
 Changes before after (proved low high old new r) = after ≡ before
 
 -- what the board's store, digest and seal mean
-module _ {S D L M : Type 0} (holds : S → ℕ → Slot) (digest : List ℕ → List ℕ) (tag_of : L → ℕ → List ℕ → List ℕ) where
-  -- A call was served: its event has these bytes for its answer, and goes behind every history that the board represented.
-  pub record Served (call : LineCall) (before after : Board S D L M) (bytes : List ℕ) : Type 0 where
+module _ {S D L : Type 0} (holds : S → ℕ → Slot) (digest : List ℕ → List ℕ) (tag_of : L → ℕ → List ℕ → List ℕ) where
+  -- A call was served: its event has these bytes for its answer, and goes behind every history of write sets that the board represented.
+  pub record Served (call : LineCall) (before after : Board S D L) (bytes : List ℕ) : Type 0 where
     pub event : Event
     pub asks : call_in event ≡ call
     pub roomy : Roomy event
     pub says : bytes ≡ event_bytes event
-    pub history : (tag : ℕ → List ℕ → List ℕ) (f own : ℕ) (h : List Event) → Represents holds digest tag_of tag f own before h → Answered digest tag f own (effects h) event × Represents holds digest tag_of tag f own after (h ++ event ∷ [])
+    pub history : (tag : ℕ → List ℕ → List ℕ) (f own : ℕ) (h : List Event) → Represents holds digest tag_of tag f own before h → WriteSets h → Answered digest tag f own (effects h) event × EventReadsBack digest tag f own (effects h) event × Represents holds digest tag_of tag f own after (h ++ event ∷ []) × WriteSets (h ++ event ∷ [])
     pub changes : Changes before after event
 
   -- A call that a line may ask for: where it asks for none it is refused, and the board is the same.
-  abbrev pub ServedBytes : Option LineCall → Board S D L M → Board S D L M → List ℕ → Type 0
+  abbrev pub ServedBytes : Option LineCall → Board S D L → Board S D L → List ℕ → Type 0
   ServedBytes (Some call) before after bytes = Served call before after bytes
   ServedBytes None before after bytes = (bytes ≡ no_call_bytes) × (after ≡ before)
 
   -- A line is answered by the digits of its answer's bytes.
-  pub record LineAnswers (line : List ℕ) (before after : Board S D L M) (digits : List ℕ) : Type 0 where
+  pub record LineAnswers (line : List ℕ) (before after : Board S D L) (digits : List ℕ) : Type 0 where
     pub bytes : List ℕ
     pub written : digits ≡ hex bytes
     pub served : ServedBytes (line_call line) before after bytes

@@ -1,5 +1,5 @@
 -- Which call a line asks for.
-use Rattle.std.specs.Prelude.{◌≡◌, ℕ, ◌+◌, ◌*◌, ◌≤◌, Bool, cond, ◌&&◌, List, [], ◌∷◌, length, take, Some, None, Option, ◌==◌, nat_le, slice_index}
+use Rattle.std.specs.Prelude.{◌≡◌, ℕ, ◌+◌, ◌*◌, ◌≤◌, Bool, cond, ◌&&◌, List, length, take, Some, None, Option, ◌==◌, nat_le, slice_index}
 use Rattle.history.specs.Events.{width}
 use Rattle.board_line.specs.declared.call.Call.{Call}
 use Rattle.board_line.specs.declared.call.Call.TheVariants.{Deliver, Item, Mark, Proof, ShareIn, ShareOut}

@@ -2,15 +2,12 @@
 use crate::gather::Gather;
 use crate::reply::AnswerLine;
 use board::state::Board;
-use digest::Digest;
-use seal::Seal;
-use store::Store;
 
 pub mod bytes;
 
 // The answer is kept until the next, so that it is written in one place.
 #[derive(Drop)]
-pub struct Serving<S: Store, D: Digest, L: Seal> {
+pub struct Serving<S, D, L> {
     board: Board<S, D, L>,
     gather: Gather,
     answer: AnswerLine,

@@ -11,6 +11,8 @@ use Rattle.board.specs.declared.state.Board.{Board}
 use Rattle.board.specs.Delivering.{KeptOnRefusal}
 use Rattle.board.specs.Shares.{Refusal}
 use Rattle.board.specs.Standing.{Represents}
+use Rattle.board.specs.WriteSets.{WriteSets}
+use Rattle.history.specs.Backs.{EventReadsBack}
 use Rattle.promises.specs.declared.calls.Call.{Call}
 use Rattle.promises.specs.declared.calls.Answer.{Answer}
 use Rattle.promises.specs.Events.{IsRefusal, Of}
@@ -57,13 +59,16 @@ module _ (room last : List ℕ) (n k : ℕ) (is : k ≡ min n (length room)) (sa
       × (last ++ drop k room ≡ take n (last ++ drop k room) ++ drop n room)
   lent event = (λ i. event (lent_before i) (lent_after i), λ i. lent_after i ++ behind i)
 
-module _ {S D L M : Type 0} (holds : S → ℕ → Slot) (digest : List ℕ → List ℕ) (tag_of : L → ℕ → List ℕ → List ℕ) (tag : ℕ → List ℕ → List ℕ) (f own : ℕ) where
+module _ {S D L : Type 0} (holds : S → ℕ → Slot) (digest : List ℕ → List ℕ) (tag_of : L → ℕ → List ℕ → List ℕ) (tag : ℕ → List ℕ → List ℕ) (f own : ℕ) where
   -- a call that is of a kind, with an event of that kind
-  pub called : (h : List Event) (c k : Call) (a : Answer) (e : Event) (room out : List ℕ) (b : Board S D L M) → c ≡ k → Of room out k a e
-      → Answered digest tag f own (effects h) e × Represents holds digest tag_of tag f own b (h ++ e ∷ []) → Called holds digest tag_of tag f own h c a room out b
-  called h c k a e room out b same of told = record {
+  pub called : (h : List Event) (c k : Call) (a : Answer) (e : Event) (room out : List ℕ) (b : Board S D L) → c ≡ k → Of room out k a e
+      → Answered digest tag f own (effects h) e × Represents holds digest tag_of tag f own b (h ++ e ∷ []) → EventReadsBack digest tag f own (effects h) e
+      → WriteSets (h ++ e ∷ []) → Called holds digest tag_of tag f own h c a room out b
+  called h c k a e room out b same of told back sets = record {
     event = e;
     of = subst (λ (d : Call). Of room out d a e) (sym same) of;
     answered = told.0;
+    back = back;
+    sets = sets;
     represents = told.1;
   }

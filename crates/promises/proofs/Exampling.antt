@@ -27,6 +27,8 @@ use Rattle.history.specs.Marks.{FirstPart, frames}
 use Rattle.history.specs.Tables.{Read, Under}
 use Rattle.history.specs.Answers.{Answered, Delivers, Lawful, deliver_table, proof_body, proof_frame, proof_table, share_table, tag_at}
 use Rattle.history.proofs.Lawfuls.{lawful-none}
+use Rattle.history.specs.Backs.{AllReadBack, EventReadsBack}
+use Rattle.history.proofs.Backs.{back_cons, back_none}
 use Rattle.history.proofs.ReadLaws.{all_had_passes}
 use Rattle.board.proofs.ShareInHistory.{read-formed}
 use Rattle.reader.specs.Example.{digest, faulty, first, proof, reading, second, signed, tag}
@@ -179,7 +181,6 @@ module _ (own : ℕ) where
   answer-proof = (
     clear_ok (λ n. n ≡ length (proof_frame digest tag 1 own before 1 2)) (proof_table digest tag 1 own before 1 2 (length buffer)) (length frame) clear_proof (ap length (sym frame_is)),
     ap (λ bs. bs ++ drop (length frame) buffer) (sym frame_is),
-    reads-back,
   )
 
   -- effects of events that were read
@@ -212,6 +213,34 @@ module _ (own : ℕ) where
   lawful true c = subst (Lawful digest tag 1 own []) (sym (append_assoc deliveries shares (asked ∷ []))) (whole (shares ++ asked ∷ []) proving)
   lawful false true = behind
   lawful false false = subst (Lawful digest tag 1 own []) (append-nil deliveries) (whole [] (lawful-none digest tag 1 own delivered-effects))
+
+  -- in them every proof reads back
+  back_cons_as : (es : List Effect) (e : Event) (h : List Event) (x : Effect) → effect e ≡ x → EventReadsBack digest tag 1 own es e
+      → AllReadBack digest tag 1 own (es ++ x ∷ []) h → AllReadBack digest tag 1 own es (e ∷ h)
+  back_cons_as es e h x is b l = back_cons digest tag 1 own es e h b (subst (λ (y : Effect). AllReadBack digest tag 1 own (es ++ y ∷ []) h) (sym is) l)
+
+  back_behind : AllReadBack digest tag 1 own [] (take 1 deliveries)
+  back_behind =
+      back_cons_as [] _ [] (commit 1 1 one.writes) (delivery_effect one 1 5 reads-one) tt (back_none digest tag 1 own (commit 1 1 one.writes ∷ []))
+
+  back_whole : (h : List Event) → AllReadBack digest tag 1 own delivered-effects h → AllReadBack digest tag 1 own [] (deliveries ++ h)
+  back_whole h l =
+      back_cons_as [] _ _ (commit 1 1 one.writes) (delivery_effect one 1 5 reads-one) tt
+      (back_cons_as (commit 1 1 one.writes ∷ []) _ _ nothing refl tt
+      (back_cons_as (commit 1 1 one.writes ∷ nothing ∷ []) _ _ (commit 1 2 two.writes) (delivery_effect two 2 6 reads_two) tt l))
+
+  back_proving : AllReadBack digest tag 1 own delivered-effects (shares ++ asked ∷ [])
+  back_proving =
+      back_cons_as delivered-effects _ _ (joins 3 first) (share-effect 3 first 1 share_3_first) tt
+      (back_cons_as (delivered-effects ++ joins 3 first ∷ []) _ _ (joins 0 first) (share-effect 0 first 2 share_0_first) tt
+      (back_cons_as (delivered-effects ++ joins 3 first ∷ joins 0 first ∷ []) _ _ (joins 1 second) (share-effect 1 second 1 share_1_second) tt
+      (back_cons_as (delivered-effects ++ joins 3 first ∷ joins 0 first ∷ joins 1 second ∷ []) _ _ (joins 3 second) (share-effect 3 second 2 share_3_second) tt
+      (back_cons_as before asked [] nothing refl reads-back (back_none digest tag 1 own (before ++ nothing ∷ []))))))
+
+  all_back : (b c : Bool) → AllReadBack digest tag 1 own [] (cond b (deliveries ++ shares ++ asked ∷ []) (cond c (take 1 deliveries) deliveries))
+  all_back true c = subst (AllReadBack digest tag 1 own []) (sym (append_assoc deliveries shares (asked ∷ []))) (back_whole (shares ++ asked ∷ []) back_proving)
+  all_back false true = back_behind
+  all_back false false = subst (AllReadBack digest tag 1 own []) (append-nil deliveries) (back_whole [] (back_none digest tag 1 own delivered-effects))
 
 -- the frames come from the bus
 on_bus : (b c : Bool) → FirstPart (frames (cond b (deliveries ++ shares ++ asked ∷ []) (cond c (take 1 deliveries) deliveries))) bus
@@ -270,6 +299,7 @@ accepted-over_histories = record {
   few = omega arith;
   among = record {
     lawful = λ a fair. lawful a (eqb a 0) (eqb a 2);
+    back = λ a fair. all_back a (eqb a 0) (eqb a 2);
     order = λ a fair. on_bus (eqb a 0) (eqb a 2);
   };
   furthest = record {

@@ -12,10 +12,12 @@ use Rattle.proof.specs.Bodies.{proof_bytes}
 use Rattle.proof.specs.Writing.{weigh_proof}
 use Rattle.reading.specs.Bodies.{ReadingBody, reading_of}
 use Rattle.history.specs.Events.{Event, effects, proved, width}
-use Rattle.history.specs.Answers.{Answered}
+use Rattle.history.specs.Answers.{Answered, ProofReadsBack}
 use Rattle.board.specs.declared.state.Board.{Board}
 use Rattle.board.specs.Proofs.{framed_now, proof_in, proof_now, range_now}
 use Rattle.board.specs.Standing.{Represents}
+use Rattle.board.specs.WriteSets.{WriteSets}
+use Rattle.board.proofs.Sets.{sets_quiet}
 use Rattle.reader.specs.Checks.{highest, lowest}
 use Rattle.reader.proofs.Clear.{ok_err}
 use Rattle.promises.specs.Readings.{Judged, OwnProof, ReadAndJudged}
@@ -53,25 +55,29 @@ pub judged_at : (digest : List ℕ → List ℕ) (seal tag : ℕ → List ℕ �
 judged_at digest seal tag g f reading proof r few same j =
     subst (λ (t : ℕ → List ℕ → List ℕ). Judged digest t f reading proof r) (λ i s m. same s m i) (subst (λ (n : ℕ). Judged digest seal n reading proof r) few j)
 
-module _ {S D L M : Type 0} (holds : S → ℕ → Slot) (digest : List ℕ → List ℕ) (tag_of : L → ℕ → List ℕ → List ℕ) (tag : ℕ → List ℕ → List ℕ) (f own : ℕ) (b : Board S D L M) (h : List Event) (low high : ℕ) (reading room out : List ℕ) where
+module _ {S D L : Type 0} (holds : S → ℕ → Slot) (digest : List ℕ → List ℕ) (tag_of : L → ℕ → List ℕ → List ℕ) (tag : ℕ → List ℕ → List ℕ) (f own : ℕ) (b : Board S D L) (h : List Event) (low high : ℕ) (reading room out : List ℕ) where
   abbrev Told : Result ℕ Fault → Type 0
-  Told call = Answered digest tag f own (effects h) (proved low high room out call) × Represents holds digest tag_of tag f own b (h ++ proved low high room out call ∷ [])
+  Told call = Answered digest tag f own (effects h) (proved low high room out call) × ProofReadsBack digest tag f own (effects h) low high out call × Represents holds digest tag_of tag f own b (h ++ proved low high room out call ∷ [])
 
-  pub own_refused : (e : Fault) → Told (Err e) → OwnProof holds digest tag_of tag f own b h low high reading room out (Err e)
-  own_refused e told = record {
+  pub own_refused : (e : Fault) → Told (Err e) → WriteSets h → OwnProof holds digest tag_of tag f own b h low high reading room out (Err e)
+  own_refused e told sets = record {
     call = Err e;
     answered = told.0;
-    represents = told.1;
+    back = told.1;
+    represents = told.2;
+    sets = sets_quiet h _ refl sets;
     refused = λ x same. same;
     judged = λ n same. absurd (ok_err n e (sym same));
     settled = λ n same. absurd (ok_err n e (sym same));
   }
 
-  pub own_judged : (n : ℕ) (r : Result ℕ Fault) → Told (Ok n) → Judged digest tag f reading (take n out) r → OwnProof holds digest tag_of tag f own b h low high reading room out r
-  own_judged n r told j = record {
+  pub own_judged : (n : ℕ) (r : Result ℕ Fault) → Told (Ok n) → WriteSets h → Judged digest tag f reading (take n out) r → OwnProof holds digest tag_of tag f own b h low high reading room out r
+  own_judged n r told sets j = record {
     call = Ok n;
     answered = told.0;
-    represents = told.1;
+    back = told.1;
+    represents = told.2;
+    sets = sets_quiet h _ refl sets;
     refused = λ e same. absurd (ok_err n e same);
     judged = λ m same. subst (λ (k : ℕ). Judged digest tag f reading (take k out) r) (same_ok n m same) j;
     settled = λ m same q read least most faulty bus of furthest among far fair later is.
@@ -93,7 +99,7 @@ module _ {S D L M : Type 0} (holds : S → ℕ → Slot) (digest : List ℕ → 
   }
 
 -- a malformed reading asks nothing of the board
-pub read-refused : {S D L M : Type 0} (holds : S → ℕ → Slot) (digest : List ℕ → List ℕ) (tag_of : L → ℕ → List ℕ → List ℕ) (tag : ℕ → List ℕ → List ℕ) (f own : ℕ) (b : Board S D L M) (h : List Event) (reading room out : List ℕ) (e : Fault)
+pub read-refused : {S D L : Type 0} (holds : S → ℕ → Slot) (digest : List ℕ → List ℕ) (tag_of : L → ℕ → List ℕ → List ℕ) (tag : ℕ → List ℕ → List ℕ) (f own : ℕ) (b : Board S D L) (h : List Event) (reading room out : List ℕ) (e : Fault)
     → reading_of width reading ≡ Err e → out ≡ room → ReadAndJudged holds digest tag_of tag f own b h reading room out (Err e)
 read-refused holds digest tag_of tag f own b h reading room out e is kept = record {
   malformed = λ d no'. (err_same e d (sym is ∙ no'), kept);

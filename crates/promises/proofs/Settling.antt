@@ -1,8 +1,8 @@
 -- Readings judged over histories.
-use Rattle.std.proofs.Common.{◌≡◌, ℕ, zero, suc, ◌+◌, ◌-◌, ◌≤◌, max, List, [], ◌∷◌, map, length, Ok, Result, refl, ap, ◌∙◌, subst, inl, inr, arith}
+use Rattle.std.proofs.Common.{◌≡◌, ℕ, zero, suc, ◌+◌, ◌-◌, ◌≤◌, max, List, [], ◌∷◌, map, length, take, Ok, Result, refl, ap, ◌∙◌, subst, inl, inr, arith}
 use Rattle.std.specs.List.{range_with_len}
 use Rattle.std.proofs.ByRecursion.{All-weaker}
-use Rattle.std.proofs.lemmas.List.{map-append}
+use Rattle.std.proofs.lemmas.List.{map-append, take_at}
 use Rattle.std.proofs.lemmas.Bool.{cases_lt}
 use Rattle.fault.specs.declared.Fault.{Fault}
 use Rattle.octets.specs.Numbers.{Bytes}
@@ -21,13 +21,20 @@ use Rattle.history.proofs.Appends.{commits-append}
 use Rattle.history.proofs.Determined.{first_either, first_shorter, first_trans, frames-first}
 use Rattle.history.proofs.Lawfuls.{lawful-first, lawful-rest}
 use Rattle.reader.specs.Checks.{CheckAnswers, Tagged, highest, lowest}
+use Rattle.reader.specs.Accepted as accepted
 use Rattle.reader.specs.Accepted.{AcceptedMeansHeld, AllTagged, Commits, Holds, HonestProof, HonestProofDecides, NoClash, entry_of}
 use Rattle.reader.proofs.Clear.{ok_clear}
 use Rattle.reader.proofs.Accepting.{table_passed}
 use Rattle.reader.proofs.Holding.{holds_passed}
 use Rattle.reader.proofs.Proving.{read-proven}
 use Rattle.promises.specs.Readings.{AcceptedIsState, Boards, Furthest, Honest, HonestProofSettles, Judged, commits_of}
+use Rattle.history.specs.Backs.{AllReadBack}
+use Rattle.history.proofs.Backs.{back_at}
 use Rattle.promises.proofs.Sharing.{AllStamped, Stamped, all_by_signer, stamped}
+
+-- a first part is the front that a reader's acceptance speaks of
+as_front : (xs ys : Commits) → FirstPart xs ys → accepted.FirstPart xs ys
+as_front xs ys (rest, e) = ap (take (length xs)) e ∙ take_at xs rest (length xs) refl
 
 module _ (digest : List ℕ → List ℕ) (tag : ℕ → List ℕ → List ℕ) (f : ℕ) (faulty : List ℕ) (bus : List (List ℕ)) (of : ℕ → List Event) (furthest : ℕ)
     (among : Boards digest tag f faulty bus of) (far : Furthest f faulty of furthest) where
@@ -81,7 +88,7 @@ module _ (digest : List ℕ → List ℕ) (tag : ℕ → List ℕ → List ℕ) 
             w.holds faulty (commits_of of furthest) (commits_of of)
             (record {
               few = few;
-              first = λ a lt out. honest-first digest tag f faulty bus of furthest among far a (lt, out);
+              first = λ a lt out. as_front (commits_of of a) (commits_of of furthest) (honest-first digest tag f faulty bus of furthest among far a (lt, out));
             })
             forgery clash;
       }
@@ -94,9 +101,9 @@ module _ (digest : List ℕ → List ℕ) (tag : ℕ → List ℕ → List ℕ) 
   settles bytes answers decides q b cs own read proves first honest = (
     λ holds.
         table_passed digest (passes tag) b.low b.high b.entries q.items r
-        (holds_passed digest (passes tag) f b q.items (read-proven f proof b bytes proves) cs own first honest holds)
+        (holds_passed digest (passes tag) f b q.items (read-proven f proof b bytes proves) cs own (as_front own cs first) honest holds)
         (read_next (proof_of width f proof) _ r b proves (read_next (reading_of width reading) _ r q read answers)),
-    λ clash e. (decides q b cs own read proves first honest clash).0 e,
+    λ clash e. (decides q b cs own read proves (as_front own cs first) honest clash).0 e,
   )
 
   pub honest_settles : Bytes proof → CheckAnswers digest (passes tag) f reading proof r → HonestProofDecides digest (passes tag) f reading proof r
@@ -108,6 +115,7 @@ module _ (digest : List ℕ → List ℕ) (tag : ℕ → List ℕ → List ℕ) 
       let es = effects earlier in
       let lawful = subst (Lawful digest tag f a []) is (among.lawful a fair) in
       let event = (lawful-rest digest tag f a [] earlier (proved low high before after (Ok n) ∷ later) lawful).0 in
+      let back = back_at digest tag f a earlier later (proved low high before after (Ok n)) (subst (AllReadBack digest tag f a []) is (among.back a fair)) in
       let own = stamped digest tag f a earlier (lawful-first digest tag f a [] earlier (proved low high before after (Ok n) ∷ later) lawful) in
       let whole : FirstPart (commits es) (commits_of of a) = (
         commits (effects (proved low high before after (Ok n) ∷ later)),
@@ -116,7 +124,7 @@ module _ (digest : List ℕ → List ℕ) (tag : ℕ → List ℕ → List ℕ) 
       ) in
       let first = first_trans (commits es) (commits_of of a) (commits_of of furthest) whole (honest-first digest tag f faulty bus of furthest among far a fair) in
       settles bytes answers decides q (proof_body digest tag f a es low high) (commits_of of furthest) (commits es) read
-      (ap (proof_of width f) given ∙ event.2 n refl) first
+      (ap (proof_of width f) given ∙ back n refl) first
       (honest-proof digest tag f a es own q.items (length before) n event.0)
 
   pub judged : Bytes proof → CheckAnswers digest (passes tag) f reading proof r → AcceptedMeansHeld digest (passes tag) f reading proof r

@@ -14,7 +14,7 @@ use Rattle.window.specs.Shares.{pair_of, pairs_below}
 use Rattle.seal.specs.Seals.{passes}
 use Rattle.share.specs.Shares.{ShareBody, read_share, share_format}
 use Rattle.request.specs.Bodies.{RequestBody, WriteBody}
-use Rattle.history.specs.Events.{Effect, Event, asked, delivered, effect, effects, marked, nothing, proved, share, share_effect, shared_in, shared_out, verdict_effect, width}
+use Rattle.history.specs.Events.{Effect, Event, asked, delivered, effect, effects, marked, nothing, proved, share_effect, shared_in, shared_out, verdict_effect, width}
 use Rattle.history.specs.Commits.{commits, write_set}
 use Rattle.history.specs.Entries.{by_signer, sealed_string, share_of, shares_of, tag_by}
 use Rattle.history.specs.Tables.{Read, Under}

@@ -20,22 +20,22 @@ pub record Compared (digest : List ℕ → List ℕ) (r : Bool) (cs ds : List (L
   pub equal : r ≡ true → (cs ≡ ds) ⊎ Clash digest (digested digest cs) (digested digest ds)
   pub same : cs ≡ ds → r ≡ true
 
-module _ {S T D K L M N : Type 0} (holds : S → ℕ → Slot) (keeps : T → ℕ → Slot) (digest : List ℕ → List ℕ) (tag_of : K → ℕ → List ℕ → List ℕ) (sealOf : L → ℕ → List ℕ → List ℕ) where
+module _ {S T D K L : Type 0} (holds : S → ℕ → Slot) (keeps : T → ℕ → Slot) (digest : List ℕ → List ℕ) (tag_of : K → ℕ → List ℕ → List ℕ) (sealOf : L → ℕ → List ℕ → List ℕ) where
   -- over all histories that the boards represent
-  abbrev pub EqualMarks : Board S D K M → Board T D L N → Bool → Type 0
+  abbrev pub EqualMarks : Board S D K → Board T D L → Bool → Type 0
   EqualMarks a b r =
       (tag seal : ℕ → List ℕ → List ℕ) (f g own other : ℕ) (h k : List Event)
       → Represents holds digest tag_of tag f own a h → Represents keeps digest sealOf seal g other b k → Compared digest r (commits (effects h)) (commits (effects k))
 
   -- A delivery's answer is unique: boards with one seal that have the same commits, and whose clients have used the same numbers, answer a frame the same.
-  abbrev pub OneAnswer : Board S D K M → Board T D L N → Result Delivery Fault → Result Delivery Fault → Type 0
+  abbrev pub OneAnswer : Board S D K → Board T D L → Result Delivery Fault → Result Delivery Fault → Type 0
   OneAnswer a b r s =
       (tag : ℕ → List ℕ → List ℕ) (f g own other : ℕ) (h k : List Event)
       → Represents holds digest tag_of tag f own a h → Represents keeps digest sealOf tag g other b k → Same (effects h) (effects k) → r ≡ s
 
   module _ (tag seal : ℕ → List ℕ → List ℕ) (f g own other : ℕ) where
     -- Runs on two new boards, and whether their marks are equal then.
-    pub record Agreed (calls others : List Call) (before after told said : List Answer) (room out space left : List ℕ) (a : Board S D K M) (b : Board T D L N) (r : Bool) : Type 0 where
+    pub record Agreed (calls others : List Call) (before after told said : List Answer) (room out space left : List ℕ) (a : Board S D K) (b : Board T D L) (r : Bool) : Type 0 where
       pub made : ℕ
       pub more : ℕ
       pub one : Runs holds digest tag_of tag f own [] calls before after room out a made

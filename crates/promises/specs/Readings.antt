@@ -11,12 +11,14 @@ use Rattle.proof.specs.Bodies.{ProofBody}
 use Rattle.proof.specs.Rules.{proof_of}
 use Rattle.history.specs.Events.{Event, effects, proved, width}
 use Rattle.history.specs.Commits.{commits}
-use Rattle.history.specs.Answers.{Answered, Lawful}
+use Rattle.history.specs.Answers.{Answered, Lawful, ProofReadsBack}
 use Rattle.history.specs.Marks.{FirstPart, frames}
 use Rattle.board.specs.declared.state.Board.{Board}
 use Rattle.board.specs.Standing.{Represents}
+use Rattle.board.specs.WriteSets.{WriteSets}
 use Rattle.promises.specs.declared.calls.Call.{Call}
 use Rattle.promises.specs.declared.calls.Answer.{Answer}
+use Rattle.history.specs.Backs.{AllReadBack}
 use Rattle.promises.specs.Runs.{Runs}
 use Rattle.reader.specs.Checks.{highest, lowest}
 use Rattle.reader.specs.Accepted.{Holds, NoClash, NoForgery}
@@ -25,10 +27,11 @@ use Rattle.reader.specs.Accepted.{Holds, NoClash, NoForgery}
 abbrev pub Honest : ℕ → List ℕ → ℕ → Type 0
 Honest f faulty a = (a < boards f) × (Has faulty a → ⊥)
 
--- Of 3 f + 1 boards some are faulty. Each honest one has a lawful history, as every run on a new board has,
+-- Of 3 f + 1 boards some are faulty. Each honest one has a lawful history in which every proof reads back, as every run on a new board has,
 -- and was delivered a first part of the frames on the bus; refused frames count too.
 pub record Boards (digest : List ℕ → List ℕ) (tag : ℕ → List ℕ → List ℕ) (f : ℕ) (faulty : List ℕ) (bus : List (List ℕ)) (of : ℕ → List Event) : Type 0 where
   pub lawful : (a : ℕ) → Honest f faulty a → Lawful digest tag f a [] (of a)
+  pub back : (a : ℕ) → Honest f faulty a → AllReadBack digest tag f a [] (of a)
   pub order : (a : ℕ) → Honest f faulty a → FirstPart (frames (of a)) bus
 
 -- an honest board that was delivered the most
@@ -75,11 +78,13 @@ module _ (digest : List ℕ → List ℕ) (tag : ℕ → List ℕ → List ℕ) 
     pub settled : HonestProofSettles
 
 -- A board's own proof call behind a history h, and the check of a reading with what the call left in the buffer; a refused call is the answer.
-module _ {S D L M : Type 0} (holds : S → ℕ → Slot) (digest : List ℕ → List ℕ) (tag_of : L → ℕ → List ℕ → List ℕ) (tag : ℕ → List ℕ → List ℕ) (f own : ℕ) where
-  pub record OwnProof (b : Board S D L M) (h : List Event) (low high : ℕ) (reading room out : List ℕ) (r : Result ℕ Fault) : Type 0 where
+module _ {S D L : Type 0} (holds : S → ℕ → Slot) (digest : List ℕ → List ℕ) (tag_of : L → ℕ → List ℕ → List ℕ) (tag : ℕ → List ℕ → List ℕ) (f own : ℕ) where
+  pub record OwnProof (b : Board S D L) (h : List Event) (low high : ℕ) (reading room out : List ℕ) (r : Result ℕ Fault) : Type 0 where
     pub call : Result ℕ Fault
     pub answered : Answered digest tag f own (effects h) (proved low high room out call)
+    pub back : ProofReadsBack digest tag f own (effects h) low high out call
     pub represents : Represents holds digest tag_of tag f own b (h ++ proved low high room out call ∷ [])
+    pub sets : WriteSets (h ++ proved low high room out call ∷ [])
     pub refused : (e : Fault) → call ≡ Err e → r ≡ Err e
     pub judged : (n : ℕ) → call ≡ Ok n → Judged digest tag f reading (take n out) r
     -- where this board is honest, and was asked for the lowest and the highest version read, whatever it was asked later
@@ -90,11 +95,11 @@ module _ {S D L M : Type 0} (holds : S → ℕ → Slot) (digest : List ℕ → 
         × (NoClash digest (commits_of of furthest) q.items → r ≡ Ok (highest q.items) → Holds (commits_of of furthest) q.items)
 
   -- The same for the range of the reading itself: a malformed reading is refused and nothing is asked; else the board is asked for the lowest and the highest version read.
-  pub record ReadAndJudged (b : Board S D L M) (h : List Event) (reading room out : List ℕ) (r : Result ℕ Fault) : Type 0 where
+  pub record ReadAndJudged (b : Board S D L) (h : List Event) (reading room out : List ℕ) (r : Result ℕ Fault) : Type 0 where
     pub malformed : (e : Fault) → reading_of width reading ≡ Err e → (r ≡ Err e) × (out ≡ room)
     pub asked : (q : ReadingBody) → reading_of width reading ≡ Ok q → OwnProof b h (lowest q.items) (highest q.items) reading room out r
 
   -- A run on a new board, and then a reading judged with that board's proof, by a reader with this f and this seal.
-  pub record RunAndJudged (calls : List Call) (before after : List Answer) (room out reading space left : List ℕ) (g : ℕ) (seal : ℕ → List ℕ → List ℕ) (b : Board S D L M) (n : ℕ) (r : Result ℕ Fault) : Type 0 where
+  pub record RunAndJudged (calls : List Call) (before after : List Answer) (room out reading space left : List ℕ) (g : ℕ) (seal : ℕ → List ℕ → List ℕ) (b : Board S D L) (n : ℕ) (r : Result ℕ Fault) : Type 0 where
     pub runs : Runs holds digest tag_of tag f own [] calls before after room out b n
     pub judged : g ≡ f → ((s : ℕ) (m : List ℕ) → seal s m ≡ tag s m) → ReadAndJudged b runs.run.events reading space left r

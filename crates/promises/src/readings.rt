@@ -4,6 +4,7 @@ ghost use Rattle.digest.specs.Meaning.{written};
 ghost use Rattle.seal.specs.Seals.{passes};
 ghost use Rattle.history.specs.Events.{Event};
 ghost use Rattle.board.specs.Standing.{Represents};
+ghost use Rattle.board.specs.WriteSets.{WriteSets};
 ghost use Rattle.reader.specs.Checks.{CheckAnswers};
 ghost use Rattle.promises.specs.Example.{AcceptedOverHistories};
 ghost use Rattle.promises.specs.Readings.{Judged, OwnProof, ReadAndJudged, RunAndJudged};
@@ -41,7 +42,7 @@ pub fn judge_own<S: Store, D: Digest, K: Seal, L: Seal>(
     reading: &[u8],
     room: &mut [u8],
 ) -> Result<u32, Fault>
-    ensures { (tag : ℕ → List ℕ → List ℕ) (f own : ℕ) (h : List Event) → Represents S.Store.holds (λ m. written (D.Digest.of m)) K.Seal.tag tag f own board.now h → reader.now.size.f ≡ f → ((s : ℕ) (m : List ℕ) → L.Seal.tag reader.now.seal s m ≡ tag s m) → OwnProof S.Store.holds (λ m. written (D.Digest.of m)) K.Seal.tag tag f own board.now h low high reading.now room.old room.new result }
+    ensures { (tag : ℕ → List ℕ → List ℕ) (f own : ℕ) (h : List Event) → Represents S.Store.holds (λ m. written (D.Digest.of m)) K.Seal.tag tag f own board.now h → WriteSets h → reader.now.size.f ≡ f → ((s : ℕ) (m : List ℕ) → L.Seal.tag reader.now.seal s m ≡ tag s m) → OwnProof S.Store.holds (λ m. written (D.Digest.of m)) K.Seal.tag tag f own board.now h low high reading.now room.old room.new result }
 {
     match board.proof(low, high, room) {
         Ok(n) => judge(reader, reading, &room[..n]),
@@ -56,7 +57,7 @@ pub fn prove_and_judge<S: Store, D: Digest, K: Seal, L: Seal>(
     reading: &[u8],
     room: &mut [u8],
 ) -> Result<u32, Fault>
-    ensures { (tag : ℕ → List ℕ → List ℕ) (f own : ℕ) (h : List Event) → Represents S.Store.holds (λ m. written (D.Digest.of m)) K.Seal.tag tag f own board.now h → reader.now.size.f ≡ f → ((s : ℕ) (m : List ℕ) → L.Seal.tag reader.now.seal s m ≡ tag s m) → ReadAndJudged S.Store.holds (λ m. written (D.Digest.of m)) K.Seal.tag tag f own board.now h reading.now room.old room.new result }
+    ensures { (tag : ℕ → List ℕ → List ℕ) (f own : ℕ) (h : List Event) → Represents S.Store.holds (λ m. written (D.Digest.of m)) K.Seal.tag tag f own board.now h → WriteSets h → reader.now.size.f ≡ f → ((s : ℕ) (m : List ℕ) → L.Seal.tag reader.now.seal s m ≡ tag s m) → ReadAndJudged S.Store.holds (λ m. written (D.Digest.of m)) K.Seal.tag tag f own board.now h reading.now room.old room.new result }
 {
     match read_reading(reading) {
         Ok(read) => judge_own(board, reader, lowest(read), highest(read), reading, room),

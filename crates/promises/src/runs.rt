@@ -4,6 +4,8 @@ ghost use Rattle.digest.specs.Meaning.{written};
 ghost use Rattle.history.specs.Answers.{Lawful};
 ghost use Rattle.history.specs.Events.{Event};
 ghost use Rattle.board.specs.Standing.{Represents};
+ghost use Rattle.board.specs.WriteSets.{WriteSets};
+ghost use Rattle.history.specs.Backs.{AllReadBack};
 ghost use Rattle.promises.specs.Events.{Refused};
 ghost use Rattle.promises.specs.Runs.{Called, Runs};
 
@@ -20,7 +22,7 @@ pub fn call<S: Store, D: Digest, L: Seal>(
     room: &mut [u8],
 ) -> Answer
     ensures refused { Refused result → (board.new ≡ board.old) × (room.new ≡ room.old) }
-    ensures history { (tag : ℕ → List ℕ → List ℕ) (f own : ℕ) (h : List Event) → Represents S.Store.holds (λ m. written (D.Digest.of m)) L.Seal.tag tag f own board.old h → Called S.Store.holds (λ m. written (D.Digest.of m)) L.Seal.tag tag f own h call.entry result room.old room.new board.new }
+    ensures history { (tag : ℕ → List ℕ → List ℕ) (f own : ℕ) (h : List Event) → Represents S.Store.holds (λ m. written (D.Digest.of m)) L.Seal.tag tag f own board.old h → WriteSets h → Called S.Store.holds (λ m. written (D.Digest.of m)) L.Seal.tag tag f own h call.entry result room.old room.new board.new }
 {
     match call {
         Call::Deliver(frame) => Answer::Delivered(board.deliver(frame)),
@@ -52,7 +54,7 @@ pub fn run<S: Store, D: Digest, L: Seal>(
     answers: &mut [Answer],
     room: &mut [u8],
 ) -> usize
-    ensures { (tag : ℕ → List ℕ → List ℕ) (f own : ℕ) (h : List Event) → Represents S.Store.holds (λ m. written (D.Digest.of m)) L.Seal.tag tag f own board.old h → Lawful (λ m. written (D.Digest.of m)) tag f own [] h → Runs S.Store.holds (λ m. written (D.Digest.of m)) L.Seal.tag tag f own h calls.now answers.old answers.new room.old room.new board.new result }
+    ensures { (tag : ℕ → List ℕ → List ℕ) (f own : ℕ) (h : List Event) → Represents S.Store.holds (λ m. written (D.Digest.of m)) L.Seal.tag tag f own board.old h → WriteSets h → Lawful (λ m. written (D.Digest.of m)) tag f own [] h → AllReadBack (λ m. written (D.Digest.of m)) tag f own [] h → Runs S.Store.holds (λ m. written (D.Digest.of m)) L.Seal.tag tag f own h calls.now answers.old answers.new room.old room.new board.new result }
 {
     let count = calls.len().min(answers.len());
     for i in 0..count {

@@ -13,6 +13,8 @@ use Rattle.history.specs.Clients.{used}
 use Rattle.history.specs.Tables.{Case, Read, Under}
 use Rattle.history.specs.Answers.{DeliverAnswers, Delivers, Lawful, deliver_table}
 use Rattle.history.proofs.Determined.{deliver-decided}
+use Rattle.history.specs.Backs.{AllReadBack}
+use Rattle.history.proofs.Backs.{back_push}
 use Rattle.history.proofs.Lawfuls.{lawful_push}
 use Rattle.history.proofs.ReadLaws.{either_all_pass}
 use Rattle.history.proofs.Tables.{Decided}
@@ -46,9 +48,9 @@ module _ (digest : List ℕ → List ℕ) (tag : ℕ → List ℕ → List ℕ) 
       go (Err e) = (Err e, refl)
 
   -- a request that reads one item, and writes it
-  pub delivered-one : DigestOf32 digest → TagOf16 tag → (P : List Effect → ℕ → ℕ → Type 0) (h : List Event) (c s : ℕ) (q : ReadBody) → Lawful digest tag f own [] h
+  pub delivered-one : DigestOf32 digest → TagOf16 tag → (P : List Effect → ℕ → ℕ → Type 0) (h : List Event) (c s : ℕ) (q : ReadBody) → Lawful digest tag f own [] h → AllReadBack digest tag f own [] h
       → P (effects h) c s → c ≤ 15 → s ≤ limit width → ReadIn width q → Delivered digest tag f own P (q ∷ [])
-  delivered-one sized sealed P h c s q lawful such few small read =
+  delivered-one sized sealed P h c s q lawful back such few small read =
       let ws = one q.item [] in
       let made = requests_occur tag sealed c s (q ∷ []) ws few small (omega arith) (read, tt) (one_climbs q.item)
       (carried_one q.item [] read.item (omega arith) (λ i. omega arith)) (all_has_itself (q.item ∷ [])) in
@@ -63,4 +65,5 @@ module _ (digest : List ℕ → List ℕ) (tag : ℕ → List ℕ → List ℕ) 
         such = such;
         requested = made.1;
         lawful = lawful_push digest tag f own [] h (delivered made.0 answer.0) lawful answer.1;
+        back = back_push digest tag f own [] h (delivered made.0 answer.0) back tt;
       }

@@ -146,6 +146,6 @@ module _ (digest : List ℕ → List ℕ) (tag : ℕ → List ℕ → List ℕ) 
     occurs =
         let cs = replicate 33 (one 0 []) in
         let made = commits_occur digest tag f own sized sealed cs (all_same Carried (one 0 []) 33 (carried_one 0 [] (omega arith) (omega arith) (λ i. lit< tt))) (omega arith) in
-        (made.0, (made.1.0, ap length made.1.1));
+        (made.0, (made.1.0, made.1.1, ap length made.1.2));
     shares_occur = shares_occur f;
   }

@@ -21,6 +21,7 @@ use Rattle.history.specs.Clients.{used}
 use Rattle.history.specs.Tables.{Read, Succeeds, Under, when}
 use Rattle.history.specs.Answers.{DeliverAnswers, Delivers, Judged, deliver_table, tag_at}
 use Rattle.history.proofs.Appends.{commits-none, used-commit, used-none}
+use Rattle.history.proofs.Backs.{back_none, back_push}
 use Rattle.history.proofs.Lawfuls.{lawful-none, lawful_push}
 use Rattle.worked.specs.Requests.{DigestOf32, TagOf16, Requested}
 use Rattle.worked.specs.Boards.{ClientNumbers, FiveThenSix, Gets, OneThreeFourFive, ReadGets, ReadsOfFive, read_of_five}
@@ -113,7 +114,7 @@ module _ (digest : List ℕ → List ℕ) (tag : ℕ → List ℕ → List ℕ) 
           let made = commits_in_turn digest tag f own sized sealed cs (carried_one 5 v (omega arith) short-v bytes-v, (carried_one 6 u (omega arith) short-u bytes-u, tt)) (omega arith) in
           let n = ap length made.1.1 in
           let free : length (commits (effects made.0)) < limit width = omega arith in
-          delivered-one digest tag f own sized sealed (λ es c s. FiveThenSix (commits es) v u × Open width (used c es) s) made.0 0 (length (commits (effects made.0)) + 1) q made.1.0.lawful
+          delivered-one digest tag f own sized sealed (λ es c s. FiveThenSix (commits es) v u × Open width (used c es) s) made.0 0 (length (commits (effects made.0)) + 1) q made.1.0.lawful made.1.0.back
           (subst (λ ds. FiveThenSix ds v u) (sym made.1.1) (five-six v u), next_open digest tag f own sized sealed made.0 made.1.0 free) (omega arith) (omega arith) read;
     }
 
@@ -123,9 +124,9 @@ module _ (digest : List ℕ → List ℕ) (tag : ℕ → List ℕ → List ℕ) 
           (behind-tag es frame c 5 rs ws r q a).0 (λ op. let e : used q.body.client es ≡ [] = ap (λ k. used k es) q.client ∙ new in let n = ap length e in let m = q.number in omega (arith, op.0.1));
       after-second = λ es c t e. subst (λ us. (Open width us t → OneThreeFourFive t) × (OneThreeFourFive t → Open width us t)) (sym e) (after-second t);
       fifth-occurs = λ k q few read.
-          delivered-one digest tag f own sized sealed (λ es c s. (c ≡ k) × (s ≡ 5) × (used c es ≡ [])) [] k 5 q (lawful-none digest tag f own []) (refl, refl, used-none k) few (omega arith) read;
+          delivered-one digest tag f own sized sealed (λ es c s. (c ≡ k) × (s ≡ 5) × (used c es ≡ [])) [] k 5 q (lawful-none digest tag f own []) (back_none digest tag f own []) (refl, refl, used-none k) few (omega arith) read;
       second-occurs = λ c few.
           let next = next-commit digest tag f own sized sealed [] c 2 (one 0 []) few (subst (λ us. Open width us 2) (sym (used-none c)) second_open) (subst (λ n. n < limit width) (sym (ap length commits-none)) (lit< tt)) (carried_one 0 [] (omega arith) (omega arith) (λ i. lit< tt)) in
           let e = next.0 in
-          (e ∷ [], (lawful_push digest tag f own [] [] e (lawful-none digest tag f own []) next.1.0, ap (λ x. used c (x ∷ [])) next.1.1 ∙ used-commit [] c 2 (one 0 []) ∙ ap (λ us. us ++ 2 ∷ []) (used-none c)));
+          (e ∷ [], (lawful_push digest tag f own [] [] e (lawful-none digest tag f own []) next.1.0, back_push digest tag f own [] [] e (back_none digest tag f own []) next.1.2, ap (λ x. used c (x ∷ [])) next.1.1 ∙ used-commit [] c 2 (one 0 []) ∙ ap (λ us. us ++ 2 ∷ []) (used-none c)));
     }

@@ -9,7 +9,6 @@ use Rattle.fault.specs.Codes.{fault}
 use Rattle.siphash.specs.SipHash.{ending, little, run, sip_hash, sip_round, sip_rounds}
 use Rattle.digest.specs.Fnv.{fnv_words, hashed, step}
 use Rattle.seal.specs.Seals.{passes}
-use Rattle.record.specs.Formats.{written}
 use Rattle.entry.specs.Bodies.{EntryBody, ItemBody, SealedBody, sealed_bytes}
 use Rattle.proof.specs.Bodies.{ProofBody, proof_bytes}
 use Rattle.proof.specs.Rules.{entries_at, proof_of}
@@ -70,7 +69,7 @@ module _ (digest : List ℕ → List ℕ) (tag : ℕ → List ℕ → List ℕ) 
       let items = along read_item_bytes (item_rows digest b.entries) items_at (mixed v u) in
       let clear = along_clear (sealed_bytes width) (sealed_rows (passes tag)) _ (sealed_clear (passes tag)) (entries_at width) b.entries honest.tags in
       let rest = behind_clear (λ m. m ≡ highest (mixed v u)) tags items r clear (under.1 (λ wrong. wrong honest.range)) in
-      (rest.1 (λ n. n (matched twice.five))).0 (newer twice.five-again.0 twice.five-again.1)
+      (rest.1 (λ n. n (matched twice.five))).0 (newer twice.five_again.0 twice.five_again.1)
 
 -- behind the readers of the two frames
 answer-under : (digest : List ℕ → List ℕ) (tag : ℕ → List ℕ → List ℕ) (f : ℕ) (reading proof : List ℕ) (r : Result ℕ Fault) (ps : List ReadingItemBody) (b : ProofBody)

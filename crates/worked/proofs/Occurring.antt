@@ -18,6 +18,8 @@ use Rattle.history.specs.Clients.{used}
 use Rattle.history.specs.Tables.{Read, Under}
 use Rattle.history.specs.Answers.{Answered, Delivers, Lawful, deliver_table, tag_at}
 use Rattle.history.proofs.Appends.{commits-commit, commits-none, effects_push, used-commit}
+use Rattle.history.specs.Backs.{AllReadBack, EventReadsBack}
+use Rattle.history.proofs.Backs.{back_none, back_push}
 use Rattle.history.proofs.Lawfuls.{lawful-none, lawful_push}
 use Rattle.history.proofs.Lefts.{left-version}
 use Rattle.history.proofs.ReadLaws.{all_had_passes}
@@ -59,7 +61,7 @@ module _ (digest : List ℕ → List ℕ) (tag : ℕ → List ℕ → List ℕ) 
 
     -- under an open number of a client the write set is the next commit
     pub next-commit : (es : List Effect) (c s : ℕ) (ws : List WriteBody) → c ≤ 15 → Open width (used c es) s → length (commits es) < limit width → Carried ws
-        → (e : Event) × (Answered digest tag f own es e × (effect e ≡ commit c s ws))
+        → (e : Event) × (Answered digest tag f own es e × (effect e ≡ commit c s ws) × EventReadsBack digest tag f own es e)
     next-commit es c s ws few is free carried =
         let cs = commits es in
         let rs = map (read_of cs) ws in
@@ -84,18 +86,20 @@ module _ (digest : List ℕ → List ℕ) (tag : ℕ → List ℕ → List ℕ) 
                 (under_given es frame b d tagged opened free ((pass, refl), refl)),
             ap (λ x. verdict_effect x Commit) q.held
                 ∙ (λ i. commit (q.client i) (q.number i) (q.writes i)),
+            tt,
           ),
         )
 
     -- one client uses its numbers in turn, one for each commit
     pub record InTurn (h : List Event) : Type 0 where
       pub lawful : Lawful digest tag f own [] h
+      pub back : AllReadBack digest tag f own [] h
       pub many : length (used 0 (effects h)) ≡ length (commits (effects h))
       pub below : (s : ℕ) → Has (used 0 (effects h)) s → s ≤ length (commits (effects h))
 
     in_turn_none : InTurn []
     unfolding commits used
-    in_turn_none = record { lawful = lawful-none digest tag f own []; many = refl; below = λ s h. absurd (not-suc-le-zero h.1) }
+    in_turn_none = record { lawful = lawful-none digest tag f own []; back = back_none digest tag f own []; many = refl; below = λ s h. absurd (not-suc-le-zero h.1) }
 
     -- so the next number is open
     pub next_open : (h : List Event) → InTurn h → length (commits (effects h)) < limit width → Open width (used 0 (effects h)) (length (commits (effects h)) + 1)
@@ -120,6 +124,7 @@ module _ (digest : List ℕ → List ℕ) (tag : ℕ → List ℕ → List ℕ) 
           (
             record {
               lawful = lawful_push digest tag f own [] h e t.lawful next.1.0;
+              back = back_push digest tag f own [] h e t.back next.1.2;
               many = ap length us ∙ length_push (used 0 es) (n + 1) ∙ omega arith;
               below = λ s has. elim (has_push_cases (used 0 es) (n + 1) s (subst (λ l. Has l s) us has)) [
                 | inl old ↦ let low = t.below s old in omega arith
@@ -146,4 +151,4 @@ module _ (digest : List ℕ → List ℕ) (tag : ℕ → List ℕ → List ℕ) 
         (made.0, (made.1.0, made.1.1 ∙ ap (λ l. l ++ cs) commits-none))
 
     pub commits_occur : CommitsOccur digest tag f own
-    commits_occur cs all le = let made = commits_in_turn cs all le in (made.0, (made.1.0.lawful, made.1.1))
+    commits_occur cs all le = let made = commits_in_turn cs all le in (made.0, (made.1.0.lawful, made.1.0.back, made.1.1))

@@ -15,6 +15,7 @@ use Rattle.history.specs.Events.{Effect, Event, delivered, effects, width}
 use Rattle.history.specs.Commits.{Wrote, commits}
 use Rattle.history.specs.Clients.{used}
 use Rattle.history.specs.Answers.{DeliverAnswers, Lawful, ProofAnswers, ShareInAnswers, ShareOutAnswers}
+use Rattle.history.specs.Backs.{AllReadBack}
 use Rattle.worked.specs.Requests.{CommitsOccur, Requested, RequestsOccur}
 
 -- the refusal of an evicted version
@@ -47,7 +48,7 @@ OneThreeFourFive t = (t ≡ 1) ⊎ ((t ≡ 3) ⊎ ((t ≡ 4) ⊎ (t ≡ 5)))
 module _ (digest : List ℕ → List ℕ) (tag : ℕ → List ℕ → List ℕ) (f own : ℕ) where
   -- a history whose effects are such
   abbrev pub Occurs : (List Effect → Type 0) → Type 0
-  Occurs P = (h : List Event) × (Lawful digest tag f own [] h × P (effects h))
+  Occurs P = (h : List Event) × (Lawful digest tag f own [] h × AllReadBack digest tag f own [] h × P (effects h))
 
   -- a history that ends in the delivery of a request with these reads, where the effects before it, the client and the number are such
   pub record Delivered (P : List Effect → ℕ → ℕ → Type 0) (rs : List ReadBody) : Type 0 where
@@ -60,6 +61,7 @@ module _ (digest : List ℕ → List ℕ) (tag : ℕ → List ℕ → List ℕ) 
     pub such : P (effects before) client number
     pub requested : Requested tag frame client number rs writes
     pub lawful : Lawful digest tag f own [] (before ++ delivered frame answer ∷ [])
+    pub back : AllReadBack digest tag f own [] (before ++ delivered frame answer ∷ [])
 
   -- version 1 is evicted, whichever call names it, and version 2 is not
   pub record FirstEvicted (es : List Effect) : Type 0 where

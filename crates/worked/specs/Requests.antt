@@ -1,6 +1,6 @@
 -- Requests that a board takes, and the commits that they make: which of them occur.
 use Rattle.std.specs.Prelude.{◌≡◌, ℕ, ◌≤◌, List, [], map, length, take, Ok}
-use Rattle.std.specs.List.{AllByRecursion, ContainsAt as Has, AllByRecursion as All}
+use Rattle.std.specs.List.{AllByRecursion, ContainsAt as Has}
 use Rattle.std.specs.List.Sorted.{IsStrictlyIncreasing}
 use Rattle.octets.specs.Numbers.{Bytes, limit}
 use Rattle.label.specs.declared.Label.TheVariants.{Request}
@@ -10,6 +10,7 @@ use Rattle.request.specs.Bodies.{ReadBody, ReadIn, RequestBody, WriteBody, Write
 use Rattle.history.specs.Events.{Event, effects, width}
 use Rattle.history.specs.Commits.{commits}
 use Rattle.history.specs.Answers.{Lawful, tag_at}
+use Rattle.history.specs.Backs.{AllReadBack}
 
 -- a digest of 32 bytes
 pub record DigestOf32 (digest : List ℕ → List ℕ) : Type 0 where
@@ -42,11 +43,11 @@ pub record Requested (tag : ℕ → List ℕ → List ℕ) (frame : List ℕ) (c
 abbrev pub RequestsOccur : (ℕ → List ℕ → List ℕ) → Type 0
 RequestsOccur tag =
     (c s : ℕ) (rs : List ReadBody) (ws : List WriteBody) → c ≤ 15 → s ≤ limit width
-    → length rs ≤ 16 → AllByRecursion (ReadIn width) rs → IsStrictlyIncreasing (map read_item rs) → Carried ws → All (Has (map read_item rs)) (map write_item ws)
+    → length rs ≤ 16 → AllByRecursion (ReadIn width) rs → IsStrictlyIncreasing (map read_item rs) → Carried ws → AllByRecursion (Has (map read_item rs)) (map write_item ws)
     → (frame : List ℕ) × Requested tag frame c s rs ws
 
 -- every list of such write sets, up to the largest version, is the list of the commits of some board
 abbrev pub CommitsOccur : (List ℕ → List ℕ) → (ℕ → List ℕ → List ℕ) → ℕ → ℕ → Type 0
 CommitsOccur digest tag f own =
-    (cs : List (List WriteBody)) → All Carried cs → length cs ≤ limit width
-    → (h : List Event) × (Lawful digest tag f own [] h × (commits (effects h) ≡ cs))
+    (cs : List (List WriteBody)) → AllByRecursion Carried cs → length cs ≤ limit width
+    → (h : List Event) × (Lawful digest tag f own [] h × AllReadBack digest tag f own [] h × (commits (effects h) ≡ cs))

@@ -1,6 +1,6 @@
 -- Worked cases of a session where one board may be faulty.
 use Rattle.std.specs.Prelude.{◌≡◌, ℕ, true, false, List, [], ◌∷◌, Ok, Err}
-use Rattle.std.specs.List.{ContainsAt as Has, AllByRecursion as All}
+use Rattle.std.specs.List.{ContainsAt as Has, AllByRecursion}
 use Rattle.fault.specs.Codes.{fault}
 use Rattle.fault.specs.declared.Cause.TheVariants.{Settled}
 use Rattle.fault.specs.declared.Layer.TheVariants.{Session}
@@ -14,7 +14,7 @@ use Rattle.session.specs.declared.replies.Reply.{Reply}
 
 pub record SessionCases : Type 0 where
   -- Equal replies of boards 0 and 3 decide, whatever other replies were accepted before the decision.
-  pub two_agree : (rs : List Reply) (v : Verdict) (k : ℕ) → All (Formed 1) rs → malformed v k ≡ false
+  pub two_agree : (rs : List Reply) (v : Verdict) (k : ℕ) → AllByRecursion (Formed 1) rs → malformed v k ≡ false
       → Has rs (reply 0 v k) → replied rs 3 ≡ false → decided 1 rs ≡ false → answer 1 rs (reply 3 v k) ≡ Ok (Decided v k)
   -- A second reply of board 0 is refused, before the decision and after it.
   pub replies_twice : (rs : List Reply) (v : Verdict) (k : ℕ) → malformed v k ≡ false → replied rs 0 ≡ true

@@ -1,4 +1,4 @@
-use Rattle.std.proofs.Common.{◌≡◌, ◌*◌, [], ◌∷◌, ◌++◌, length, drop, sym, refl, ap, ◌∙◌, arith, length-take}
+use Rattle.std.proofs.Common.{◌≡◌, ◌*◌, ◌++◌, length, drop, ap, ◌∙◌, arith, length-take}
 use Rattle.std.proofs.lemmas.List.{take_all}
 use Rattle.board_line.specs.Hex.{hex}
 use Rattle.board_line.proofs.Digits.{encode_more}
@@ -6,9 +6,9 @@ use Rattle.board_line.proofs.hex.encode.Goals as goal
 
 pub loop-i-preserved : goal.loop-i-preserved
 loop-i-preserved c =
-    let a = c.digit-of.ensures in
-    let b = c.digit-of-in-loop-i.ensures in
-    encode_more c.args.bytes.now c.loop-i.out c.args.out.now c.loop-i.i c.digit-of.result c.digit-of-in-loop-i.result
+    let a = c.digit_of.ensures in
+    let b = c.digit_of-in-loop-i.ensures in
+    encode_more c.args.bytes.now c.loop-i.out c.args.out.now c.loop-i.i c.digit_of.result c.digit_of-in-loop-i.result
     (omega arith) c.requires c.loop-i.invariant (simp length-take (omega arith)) (cc)
 
 pub returns : goal.returns

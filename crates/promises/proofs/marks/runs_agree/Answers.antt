@@ -3,9 +3,9 @@ use Rattle.promises.proofs.marks.runs_agree.Goals as goal
 
 pub returns : goal.returns
 returns g c =
-    let one = c.run-new-mine.ensures in
-    let two = c.run-new-theirs.ensures in
-    let compared = c.same-marks-same.ensures _ _ _ _ _ _ _ _ one.run.represents two.run.represents in
+    let one = c.run_new-mine.ensures in
+    let two = c.run_new-theirs.ensures in
+    let compared = c.same_marks-same.ensures _ _ _ _ _ _ _ _ one.run.represents two.run.represents in
     record {
       made = _;
       more = _;

@@ -5,6 +5,6 @@ use Rattle.promises.proofs.readings.judge.Goals as goal
 pub returns : goal.returns
 returns g c = record {
   answer = c.check.ensures.answer;
-  judged = judged _ _ _ _ _ _ (λ i. (c.type-inv.proof i).fits) c.check.ensures.answer c.check.ensures.held c.check.ensures.decides;
+  judged = judged _ _ _ _ _ _ (λ i. (c.type_inv.proof i).fits) c.check.ensures.answer c.check.ensures.held c.check.ensures.decides;
   instance = accepted-over_histories;
 }

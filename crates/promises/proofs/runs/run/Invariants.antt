@@ -3,6 +3,8 @@ use Rattle.digest.specs.Meaning.{written}
 use Rattle.history.specs.Answers.{Lawful}
 use Rattle.history.specs.Events.{Event}
 use Rattle.board.specs.Standing.{Represents}
+use Rattle.board.specs.WriteSets.{WriteSets}
+use Rattle.history.specs.Backs.{AllReadBack}
 use Rattle.promises.specs.Runs.{Run}
 use Rattle.promises.proofs.runs.run.Given as goal
 
@@ -11,6 +13,8 @@ abbrev pub invariant-loop-i : goal.invariant-loop-i
 invariant-loop-i g l =
     ((tag : ℕ → List ℕ → List ℕ) (f own : ℕ) (h : List Event)
     → Represents g.S.Store.holds (λ m. written (g.D.Digest.of m)) g.L.Seal.tag tag f own l.initial.board h
+    → WriteSets h
     → Lawful (λ m. written (g.D.Digest.of m)) tag f own [] h
+    → AllReadBack (λ m. written (g.D.Digest.of m)) tag f own [] h
     → Run g.S.Store.holds (λ m. written (g.D.Digest.of m)) g.L.Seal.tag tag f own h (take l.i l.calls) (take l.i l.answers) l.initial.room l.room l.board)
     × (drop l.i l.answers ≡ drop l.i l.initial.answers)

@@ -1,4 +1,4 @@
-use Rattle.std.proofs.Common.{◌*◌, length, take, drop, ap, ◌∙◌}
+use Rattle.std.proofs.Common.{◌*◌, length, take, ap, ◌∙◌}
 use Rattle.std.proofs.lemmas.List.{take_at}
 use Rattle.board_line.specs.Hex.{hex}
 use Rattle.board_line.proofs.Digits.{length-hex}

@@ -2,6 +2,7 @@ use Rattle.std.proofs.Common.{◌≡◌, ℕ, length, take, drop, sym, refl, ap,
 use borrow.Rule.Slice.PartMut.{same_len_mid}
 use Rattle.history.specs.Events.{asked, delivered, marked, proved, shared_in, shared_out}
 use Rattle.board.specs.Said.{said}
+use Rattle.board.proofs.Sets.{sets_quiet, share_quiet}
 use Rattle.board_line.specs.Lines.{asks_for}
 use Rattle.board_line.specs.Replies.{reply}
 use Rattle.board_line.proofs.Served.{delivered-changes, shared_changes}
@@ -10,84 +11,84 @@ use Rattle.board_line.proofs.reply.answers.put_reply.Goals as goal
 
 pub returns-in-Deliver : goal.returns-in-Deliver
 returns-in-Deliver g c = record {
-  bound = c.put-delivery.ensures.bound;
+  bound = c.put_delivery.ensures.bound;
   served = record {
     event = delivered c.in-Deliver.frame.now c.deliver.result;
     asks = ap asks_for (sym c.in-Deliver.is);
     roomy = tt;
-    says = c.put-delivery.ensures.front;
-    history = c.deliver.ensures.history;
+    says = c.put_delivery.ensures.front;
+    history = λ tag f own h st sets. (let told = c.deliver.ensures.history tag f own h st in (told.0, tt, told.1, c.deliver.ensures.sets h sets));
     changes = delivered-changes c.args.board.now c.deliver.new.self c.in-Deliver.frame.now c.deliver.result c.deliver.ensures.refused;
   };
 }
 
 pub returns-in-ShareIn : goal.returns-in-ShareIn
 returns-in-ShareIn g c = record {
-  bound = c.put-count.ensures.bound;
+  bound = c.put_count.ensures.bound;
   served = record {
-    event = shared_in c.in-ShareIn.frame.now c.share-in.result;
+    event = shared_in c.in-ShareIn.frame.now c.share_in.result;
     asks = ap asks_for (sym c.in-ShareIn.is);
     roomy = tt;
-    says = c.put-count.ensures.front;
-    history = c.share-in.ensures.history;
-    changes = shared_changes c.args.board.now c.share-in.new.self c.in-ShareIn.frame.now c.share-in.result c.share-in.ensures.refused;
+    says = c.put_count.ensures.front;
+    history = λ tag f own h st sets. (let told = c.share_in.ensures.history tag f own h st in (told.0, tt, told.1, sets_quiet h _ (share_quiet c.in-ShareIn.frame.now c.share_in.result) sets));
+    changes = shared_changes c.args.board.now c.share_in.new.self c.in-ShareIn.frame.now c.share_in.result c.share_in.ensures.refused;
   };
 }
 
 pub returns-in-Proof : goal.returns-in-Proof
 returns-in-Proof g c = record {
-  bound = c.put-written.ensures.bound;
+  bound = c.put_written.ensures.bound;
   served = record {
     event = proved c.in-Proof.low c.in-Proof.high (take 11813 (drop 1 c.args.out.now)) c.proof-written.new.out c.proof-written.result;
     asks = ap asks_for (sym c.in-Proof.is);
     roomy = simp (length-take, length-drop) (omega arith);
-    says = c.put-written.ensures.front ∙ ap (λ zs. reply (λ n. take n zs) c.proof-written.result) (lent_back 11813 c.args.out.now c.proof-written.new.out (omega arith));
-    history = c.proof-written.ensures.history;
+    says = c.put_written.ensures.front ∙ ap (λ zs. reply (λ n. take n zs) c.proof-written.result) (lent_back 11813 c.args.out.now c.proof-written.new.out (omega arith));
+    history = λ tag f own h st sets. (let told = c.proof-written.ensures.history tag f own h st sets in (told.0, told.1, told.2, sets_quiet h _ refl sets));
     changes = refl;
   };
 }
 
 pub returns-in-Item : goal.returns-in-Item
 returns-in-Item g c = record {
-  bound = c.put-item.ensures.bound;
+  bound = c.put_item.ensures.bound;
   served = record {
     event = asked c.in-Item.number (said c.item.result);
     asks = ap asks_for (sym c.in-Item.is);
     roomy = tt;
-    says = c.put-item.ensures.front;
-    history = c.item.ensures.history;
+    says = c.put_item.ensures.front;
+    history = λ tag f own h st sets. (let told = c.item.ensures.history tag f own h st in (told.0, tt, told.1, sets_quiet h _ refl sets));
     changes = refl;
   };
 }
 
 pub returns-in-Mark : goal.returns-in-Mark
 returns-in-Mark g c = record {
-  bound = c.put-mark.ensures.bound;
+  bound = c.put_mark.ensures.bound;
   served = record {
     event = marked c.mark.result.count c.mark.result.chain;
     asks = ap asks_for (sym c.in-Mark.is);
     roomy = tt;
-    says = c.put-mark.ensures.front;
-    history = c.mark.ensures.history;
+    says = c.put_mark.ensures.front;
+    history = λ tag f own h st sets. (let told = c.mark.ensures.history tag f own h st in (told.0, tt, told.1, sets_quiet h _ refl sets));
     changes = refl;
   };
 }
 
 pub returns-in-ShareOut : goal.returns-in-ShareOut
 returns-in-ShareOut g c = record {
-  bound = c.put-written-in-ShareOut.ensures.bound;
+  bound = c.put_written-in-ShareOut.ensures.bound;
   served = record {
-    event = shared_out c.in-ShareOut.version (take 11813 (drop 1 c.args.out.now)) c.share-out-written.new.out c.share-out-written.result;
+    event = shared_out c.in-ShareOut.version (take 11813 (drop 1 c.args.out.now)) c.share_out-written.new.out c.share_out-written.result;
     asks = ap asks_for (sym c.in-ShareOut.is);
     roomy = simp (length-take, length-drop) (omega arith);
-    says = c.put-written-in-ShareOut.ensures.front ∙ ap (λ zs. reply (λ n. take n zs) c.share-out-written.result) (lent_back 11813 c.args.out.now c.share-out-written.new.out (omega arith));
-    history = c.share-out-written.ensures.history;
+    says = c.put_written-in-ShareOut.ensures.front ∙ ap (λ zs. reply (λ n. take n zs) c.share_out-written.result) (lent_back 11813 c.args.out.now c.share_out-written.new.out (omega arith));
+    history = λ tag f own h st sets. (let told = c.share_out-written.ensures.history tag f own h st in (told.0, tt, told.1, sets_quiet h _ refl sets));
     changes = refl;
   };
 }
 
-pub put-written-requires : goal.put-written-requires
-put-written-requires g c =
+pub put_written-requires : goal.put_written-requires
+put_written-requires g c =
     let old = take 11813 (drop 1 c.args.out.now) in
     let room : length old ≡ 11813 = simp (length-take, length-drop) (omega arith) in
     let P : ℕ → Type 0 = λ k. Few k c.proof-written.result in
@@ -96,12 +97,12 @@ put-written-requires g c =
       within = subst P room (proof-few c.args.board.now.window c.args.board.now.place.f c.args.board.now.count c.in-Proof.low c.in-Proof.high (length old) c.proof-written.result c.proof-written.ensures.answer);
     }
 
-pub put-written-requires-in-ShareOut : goal.put-written-requires-in-ShareOut
-put-written-requires-in-ShareOut g c =
+pub put_written-requires-in-ShareOut : goal.put_written-requires-in-ShareOut
+put_written-requires-in-ShareOut g c =
     let old = take 11813 (drop 1 c.args.out.now) in
     let room : length old ≡ 11813 = simp (length-take, length-drop) (omega arith) in
-    let P : ℕ → Type 0 = λ k. Few k c.share-out-written.result in
+    let P : ℕ → Type 0 = λ k. Few k c.share_out-written.result in
     record {
-      room = same_len_mid 1 11813 c.args.out.now c.share-out-written.new.out c.share-out-written.auto.out ∙ c.requires;
-      within = subst P room (share-few c.args.board.now.count c.in-ShareOut.version (length old) c.share-out-written.result c.share-out-written.ensures.answer);
+      room = same_len_mid 1 11813 c.args.out.now c.share_out-written.new.out c.share_out-written.auto.out ∙ c.requires;
+      within = subst P room (share-few c.args.board.now.count c.in-ShareOut.version (length old) c.share_out-written.result c.share_out-written.ensures.answer);
     }

@@ -10,6 +10,6 @@ returns g c = record {
   line = c.clear.ensures;
   step = (
     refl,
-    λ line whole. answer-kept g.S.Store.holds (λ m. written (g.D.Digest.of m)) g.L.Seal.tag c.args.self.now.board c.answer.new.board line (gathered c.args.self.now.gather) c.as-slice.result.now (digits_of c.answer.new.out) whole c.as-slice.ensures c.answer.ensures,
+    λ line whole. answer-kept g.S.Store.holds (λ m. written (g.D.Digest.of m)) g.L.Seal.tag c.args.self.now.board c.answer.new.board line (gathered c.args.self.now.gather) c.as_slice.result.now (digits_of c.answer.new.out) whole c.as_slice.ensures c.answer.ensures,
   );
 }

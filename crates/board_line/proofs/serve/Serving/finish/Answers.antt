@@ -9,6 +9,6 @@ use Rattle.board_line.proofs.serve.Serving.finish.Goals as goal
 pub returns : goal.returns
 returns g c =
     finished
-    (λ line. LineAnswers g.S.Store.holds (λ m. written (g.D.Digest.of m)) g.L.Seal.tag line c.args.self.now.board c.end-line.new.self.board (digits_of c.end-line.new.self.answer))
-    (c.end-line.new.self.board ≡ c.args.self.now.board)
-    (gathered c.args.self.now.gather) c.end-line.result (sym c.is-empty.ensures ∙ c.if-is-empty.false) c.end-line.ensures.step
+    (λ line. LineAnswers g.S.Store.holds (λ m. written (g.D.Digest.of m)) g.L.Seal.tag line c.args.self.now.board c.end_line.new.self.board (digits_of c.end_line.new.self.answer))
+    (c.end_line.new.self.board ≡ c.args.self.now.board)
+    (gathered c.args.self.now.gather) c.end_line.result (sym c.is_empty.ensures ∙ c.if-is_empty.false) c.end_line.ensures.step
