@@ -1,6 +1,5 @@
 -- What a line says, and the buffer that its request was read to.
 use Rattle.std.specs.Prelude.{ℕ, ◌≤◌}
-use Rattle.board.specs.declared.state.Mark.{Mark}
 use Rattle.bankaudit.specs.declared.lines.Line.{Line}
 use Rattle.bankaudit.specs.declared.lines.Line.TheVariants.{Passed, Request, Report, Strange}
 

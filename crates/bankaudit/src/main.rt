@@ -2,6 +2,7 @@
 // A line is a call as the board's program takes it, or `mark`, a board's number and what that board printed for 07.
 // Two words may choose the digest (fnv, sha256) and the seal (sip, hmac).
 #![tactic(auto)]
+
 use anyhow::anyhow;
 use audit::state::Audit;
 use board::size::Place;
@@ -47,7 +48,7 @@ fn chosen(word: &str, usual: &str, other: &str) -> anyhow::Result<bool> {
     if word == other {
         return Ok(true);
     }
-    Err(USAGE.into())
+    Err(anyhow!(USAGE))
 }
 
 // Whether SHA-256 was chosen, and whether HMAC was.
@@ -58,7 +59,7 @@ fn choices(rt: &HostRuntime) -> anyhow::Result<(bool, bool)> {
         return Ok((false, false));
     };
     let Some(seal) = words.next() else {
-        return Err(USAGE.into());
+        return Err(anyhow!(USAGE));
     };
     let sha = chosen(digest.as_str(), "fnv", "sha256")?;
     let mac = chosen(seal.as_str(), "sip", "hmac")?;

@@ -1,6 +1,7 @@
 // Loads a list of parameters from standard input into a store, reads each back and prints what it did.
 // A line is an item's number, a space and the value as text; an empty line and one that begins with # is passed over.
 #![tactic(auto)]
+
 use anyhow::anyhow;
 use digest::{Digest, Fnv};
 use store::Store;

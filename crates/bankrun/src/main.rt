@@ -1,5 +1,6 @@
 // The line program: a board's bank on standard input and output, one line of hexadecimal digits to a call.
 #![tactic(auto)]
+
 use anyhow::anyhow;
 use bank::state::Bank;
 use digest::Fnv;

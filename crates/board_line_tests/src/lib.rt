@@ -1,5 +1,6 @@
 // The line library by example: what a new board says to lines of every kind, good and damaged.
 #![tactic(auto)]
+
 #[cfg(test)]
 mod tests {
     use board::size::Place;
@@ -66,6 +67,7 @@ mod tests {
     // What the last of some lines is answered.
     fn last_says(
         rt: &(impl Abort + AllocGlobal),
+        what: &str,
         lines: &[&[u8]],
         answer: &[u8],
     ) -> Result<(), Fail> {
@@ -74,78 +76,133 @@ mod tests {
             input.extend_from_slice(line)?;
         }
         let out = served(rt.alloc(), input.as_slice())?;
-        assert!(rt; out.as_slice().ends_with(answer));
+        assert!(rt; out.as_slice().ends_with(answer), "{what}");
         Ok(())
     }
 
-    fn says(rt: &(impl Abort + AllocGlobal), input: &[u8], answer: &[u8]) -> Result<(), Fail> {
+    fn says(
+        rt: &(impl Abort + AllocGlobal),
+        what: &str,
+        input: &[u8],
+        answer: &[u8],
+    ) -> Result<(), Fail> {
         let out = served(rt.alloc(), input)?;
-        assert!(rt; out.as_slice() == answer);
+        assert!(rt; out.as_slice() == answer, "{what}");
         Ok(())
     }
 
     #[test]
     fn lines_that_ask_for_no_call(rt: HostRuntime) -> Result<(), Fail> {
-        says(&rt, b"\n", REFUSED).note("empty")?;
-        says(&rt, b"070\n", REFUSED).note("odd")?;
-        says(&rt, b"0g\n", REFUSED).note("no digit")?;
-        says(&rt, b"0\x00\n", REFUSED).note("NUL")?;
-        says(&rt, b"07\r\n", REFUSED).note("CR")?;
-        says(&rt, b"\xff\xfe\n", REFUSED).note("no text")?;
-        says(&rt, b"0700\n", REFUSED).note("07 of another length")?;
-        says(&rt, b"06\n", REFUSED).note("06 of another length")?;
-        says(&rt, b"03000000\n", REFUSED).note("03 of another length")?;
-        says(&rt, b"0800\n", REFUSED).note("08 of another length")?;
+        says(&rt, "empty", b"\n", REFUSED)?;
+        says(&rt, "odd", b"070\n", REFUSED)?;
+        says(&rt, "no digit", b"0g\n", REFUSED)?;
+        says(&rt, "NUL", b"0\x00\n", REFUSED)?;
+        says(&rt, "CR", b"07\r\n", REFUSED)?;
+        says(&rt, "no text", b"\xff\xfe\n", REFUSED)?;
+        says(&rt, "07 of another length", b"0700\n", REFUSED)?;
+        says(&rt, "06 of another length", b"06\n", REFUSED)?;
+        says(&rt, "03 of another length", b"03000000\n", REFUSED)?;
+        says(&rt, "08 of another length", b"0800\n", REFUSED)?;
         says(
             &rt,
+            "other kinds",
             b"04\n05\n09\n00\n",
             b"ff01460000\nff01460000\nff01460000\nff01460000\n",
         )
-        .note("other kinds")
     }
 
     #[test]
     fn lines_and_their_ends(rt: HostRuntime) -> Result<(), Fail> {
-        says(&rt, b"", b"").note("no input")?;
-        says(&rt, b"0300000000\n", b"000400010000\n").note("behind a last LF there is no line")?;
-        says(&rt, b"0300000000", b"000400010000\n").note("a last line without LF")?;
-        says(&rt, b"\n0300000000", b"ff01460000\n000400010000\n").note("an empty line is a line")?;
-        says(&rt, b"0640\n06FF", b"ff01460001\nff01460001\n").note("upper case")
+        says(&rt, "no input", b"", b"")?;
+        says(
+            &rt,
+            "behind a last LF there is no line",
+            b"0300000000\n",
+            b"000400010000\n",
+        )?;
+        says(
+            &rt,
+            "a last line without LF",
+            b"0300000000",
+            b"000400010000\n",
+        )?;
+        says(
+            &rt,
+            "an empty line is a line",
+            b"\n0300000000",
+            b"ff01460000\n000400010000\n",
+        )?;
+        says(
+            &rt,
+            "upper case",
+            b"0640\n06FF",
+            b"ff01460001\nff01460001\n",
+        )
     }
 
     #[test]
     fn calls_on_a_new_board(rt: HostRuntime) -> Result<(), Fail> {
-        says(&rt, b"0300010000", b"ff01460003\n").note("lowest above highest")?;
-        says(&rt, b"0300000001", b"ff0c420000\n").note("highest above the last commit")?;
-        says(&rt, b"080000", b"ff01460001\n").note("version 0")?;
-        says(&rt, b"08ffff", b"ff0c420000\n").note("version above the last commit")?;
-        says(&rt, b"01", b"ff01460001\n").note("a request of one byte")?;
-        says(&rt, b"0110", b"ff01460001\n").note("client 16")?;
-        says(&rt, b"02ff\n", b"ff01460002\n").note("a share of two bytes")?;
-        says(&rt, b"02010000", b"ff01460002\n").note("a share of version 0")?;
-        says(&rt, SHARE_1, b"ff0c420000\n").note("a share of no commit")
+        says(&rt, "lowest above highest", b"0300010000", b"ff01460003\n")?;
+        says(
+            &rt,
+            "highest above the last commit",
+            b"0300000001",
+            b"ff0c420000\n",
+        )?;
+        says(&rt, "version 0", b"080000", b"ff01460001\n")?;
+        says(
+            &rt,
+            "version above the last commit",
+            b"08ffff",
+            b"ff0c420000\n",
+        )?;
+        says(&rt, "a request of one byte", b"01", b"ff01460001\n")?;
+        says(&rt, "client 16", b"0110", b"ff01460001\n")?;
+        says(&rt, "a share of two bytes", b"02ff\n", b"ff01460002\n")?;
+        says(&rt, "a share of version 0", b"02010000", b"ff01460002\n")?;
+        says(&rt, "a share of no commit", SHARE_1, b"ff0c420000\n")
     }
 
     #[test]
     fn a_request_its_shares_and_their_proof(rt: HostRuntime) -> Result<(), Fail> {
-        last_says(&rt, &[REQUEST], b"000100010005\n").note("commit 1, number 5 opened")?;
-        last_says(&rt, &[REQUEST, REQUEST], b"ff0a420002\n").note("its number is used up")?;
-        last_says(&rt, &[REQUEST, SHARE_1], b"0001\n").note("one share")?;
-        last_says(&rt, &[REQUEST, SHARE_1, SHARE_1], b"ff0e420000\n").note("board 1 sent one")?;
-        last_says(&rt, &[REQUEST, SHARE_1, SHARE_0], b"0002\n").note("two shares")?;
         last_says(
             &rt,
+            "commit 1, number 5 opened",
+            &[REQUEST],
+            b"000100010005\n",
+        )?;
+        last_says(
+            &rt,
+            "its number is used up",
+            &[REQUEST, REQUEST],
+            b"ff0a420002\n",
+        )?;
+        last_says(&rt, "one share", &[REQUEST, SHARE_1], b"0001\n")?;
+        last_says(
+            &rt,
+            "board 1 sent one",
+            &[REQUEST, SHARE_1, SHARE_1],
+            b"ff0e420000\n",
+        )?;
+        last_says(&rt, "two shares", &[REQUEST, SHARE_1, SHARE_0], b"0002\n")?;
+        last_says(
+            &rt,
+            "share out",
             &[REQUEST, b"080001"],
             b"00020000018e63d5a76678eeec0000000000000000\n",
-        )
-        .note("share out")?;
-        last_says(&rt, &[REQUEST, SHARE_1, b"0300010001"], b"ff0f420001\n").note("one is too few")?;
+        )?;
         last_says(
             &rt,
+            "one is too few",
+            &[REQUEST, SHARE_1, b"0300010001"],
+            b"ff0f420001\n",
+        )?;
+        last_says(
+            &rt,
+            "the proof, a lowest 0 counting as 1",
             &[REQUEST, SHARE_1, SHARE_0, b"0300000001"],
             b"00040001000100010105af63a74c8601927d000000000000000100000000000000000000000000000000008e63d5a76678eeec00000000000000000180e9015b3e0365d90000000000000000\n",
         )
-        .note("the proof, a lowest 0 counting as 1")
     }
 
     // Each digit of a request, made another: refused, and nothing committed.
@@ -182,7 +239,7 @@ mod tests {
         expected.extend_from_slice(zeros.as_slice())?;
         for digits in [1708, 1709, 1710, 100000] {
             let line = long_line(rt.alloc(), digits)?;
-            says(&rt, line.as_slice(), expected.as_slice())?;
+            says(&rt, "a long line", line.as_slice(), expected.as_slice())?;
         }
         Ok(())
     }

@@ -12,7 +12,7 @@ use Rattle.board_line.specs.declared.serve.Serving.{Serving}
 use Rattle.board_line.specs.Gathers.{gathered}
 
 -- A new board 0 for f = 1, with no line begun: a table, FNV-1a, and SipHash under keys of 32 bytes s for signer s.
-pub record Starts (s : Serving Table Fnv SipSeal (Unit {0})) : Type 0 where
+pub record Starts (s : Serving Table Fnv SipSeal) : Type 0 where
   pub keys : List (List ℕ)
   pub alike : (signer : ℕ) → signer < 32 → slice_index_or keys signer [] ≡ replicate 32 signer
   pub board : Represents rows (λ m. written (fnv_words m)) (λ seal i m. sip_tag (slice_index_or seal.keys i []) m) (λ i m. sip_tag (slice_index_or keys i []) m) 1 0 s.board []

@@ -1,5 +1,6 @@
 // The line program: a board on standard input and output, one line of hexadecimal digits to a call.
 #![tactic(auto)]
+
 use board_line::serve::{Serving, Step};
 use digest::Fnv;
 use seal::sip::SipSeal;

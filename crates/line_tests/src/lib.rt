@@ -1,5 +1,6 @@
 // The line library by example: what a bank with no commits says to lines of every kind, good and damaged.
 #![tactic(auto)]
+
 #[cfg(test)]
 mod tests {
     use bank::state::Bank;
@@ -37,49 +38,84 @@ mod tests {
         Ok(out)
     }
 
-    fn says(rt: &(impl Abort + AllocGlobal), input: &[u8], answer: &[u8]) -> Result<(), Fail> {
+    fn says(
+        rt: &(impl Abort + AllocGlobal),
+        what: &str,
+        input: &[u8],
+        answer: &[u8],
+    ) -> Result<(), Fail> {
         let out = served(rt.alloc(), input)?;
-        assert!(rt; out.as_slice() == answer);
+        assert!(rt; out.as_slice() == answer, "{what}");
         Ok(())
     }
 
     #[test]
     fn lines_that_ask_for_no_call(rt: HostRuntime) -> Result<(), Fail> {
-        says(&rt, b"\n", REFUSED).note("empty")?;
-        says(&rt, b"070\n", REFUSED).note("odd")?;
-        says(&rt, b"0g\n", REFUSED).note("no digit")?;
-        says(&rt, b"0\x00\n", REFUSED).note("NUL")?;
-        says(&rt, b"07\r\n", REFUSED).note("CR")?;
-        says(&rt, b"\xff\xfe\n", REFUSED).note("no text")?;
-        says(&rt, b"0700\n", REFUSED).note("07 of another length")?;
-        says(&rt, b"06\n", REFUSED).note("06 of another length")?;
-        says(&rt, b"03000000\n", REFUSED).note("03 of another length")?;
-        says(&rt, b"0800\n", REFUSED).note("08 of another length")?;
+        says(&rt, "empty", b"\n", REFUSED)?;
+        says(&rt, "odd", b"070\n", REFUSED)?;
+        says(&rt, "no digit", b"0g\n", REFUSED)?;
+        says(&rt, "NUL", b"0\x00\n", REFUSED)?;
+        says(&rt, "CR", b"07\r\n", REFUSED)?;
+        says(&rt, "no text", b"\xff\xfe\n", REFUSED)?;
+        says(&rt, "07 of another length", b"0700\n", REFUSED)?;
+        says(&rt, "06 of another length", b"06\n", REFUSED)?;
+        says(&rt, "03 of another length", b"03000000\n", REFUSED)?;
+        says(&rt, "08 of another length", b"0800\n", REFUSED)?;
         says(
             &rt,
+            "other kinds",
             b"04\n05\n09\n00\n",
             b"ff01460000\nff01460000\nff01460000\nff01460000\n",
         )
-        .note("other kinds")
     }
 
     #[test]
     fn lines_and_their_ends(rt: HostRuntime) -> Result<(), Fail> {
-        says(&rt, b"", b"").note("no input")?;
-        says(&rt, b"0300000000\n", b"000400010000\n").note("behind a last LF there is no line")?;
-        says(&rt, b"0300000000", b"000400010000\n").note("a last line without LF")?;
-        says(&rt, b"\n0300000000", b"ff01460000\n000400010000\n").note("an empty line is a line")?;
-        says(&rt, b"0640\n06FF", b"ff01460001\nff01460001\n").note("upper case")
+        says(&rt, "no input", b"", b"")?;
+        says(
+            &rt,
+            "behind a last LF there is no line",
+            b"0300000000\n",
+            b"000400010000\n",
+        )?;
+        says(
+            &rt,
+            "a last line without LF",
+            b"0300000000",
+            b"000400010000\n",
+        )?;
+        says(
+            &rt,
+            "an empty line is a line",
+            b"\n0300000000",
+            b"ff01460000\n000400010000\n",
+        )?;
+        says(
+            &rt,
+            "upper case",
+            b"0640\n06FF",
+            b"ff01460001\nff01460001\n",
+        )
     }
 
     #[test]
     fn calls_on_a_bank_with_no_commits(rt: HostRuntime) -> Result<(), Fail> {
-        says(&rt, b"0300010000", b"ff01460003\n").note("lowest above highest")?;
-        says(&rt, b"0300000001", b"ff0c420000\n").note("highest above the last commit")?;
-        says(&rt, b"080000", b"ff01460001\n").note("version 0")?;
-        says(&rt, b"08ffff", b"ff0c420000\n").note("version above the last commit")?;
-        says(&rt, b"01", b"not served\n").note("a request")?;
-        says(&rt, b"02ff\n", b"not served\n").note("a share")
+        says(&rt, "lowest above highest", b"0300010000", b"ff01460003\n")?;
+        says(
+            &rt,
+            "highest above the last commit",
+            b"0300000001",
+            b"ff0c420000\n",
+        )?;
+        says(&rt, "version 0", b"080000", b"ff01460001\n")?;
+        says(
+            &rt,
+            "version above the last commit",
+            b"08ffff",
+            b"ff0c420000\n",
+        )?;
+        says(&rt, "a request", b"01", b"not served\n")?;
+        says(&rt, "a share", b"02ff\n", b"not served\n")
     }
 
     fn long_line(heap: Global, digits: usize) -> Result<Vec<u8>, AllocError> {
@@ -100,7 +136,7 @@ mod tests {
         expected.extend_from_slice(zeros.as_slice())?;
         for digits in [1708, 1709, 1710, 100000] {
             let line = long_line(rt.alloc(), digits)?;
-            says(&rt, line.as_slice(), expected.as_slice())?;
+            says(&rt, "a long line", line.as_slice(), expected.as_slice())?;
         }
         Ok(())
     }

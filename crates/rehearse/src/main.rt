@@ -1,6 +1,7 @@
 // The rehearsal: a cluster of 3f + 1 boards, some of them wrong, with clients, sessions and a reader.
 // rehearse [F [DIGEST [SEAL [WAY...]]]], or `rehearse all` for every way in turn, or `rehearse ways` for their list.
 #![tactic(auto)]
+
 mod account;
 mod answer;
 mod cluster;

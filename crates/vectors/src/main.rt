@@ -1,6 +1,7 @@
 // Runs the published algorithms on outside vectors and prints one line for each family.
 // The expected values come from the standards and the authors, sha256sum, openssl, Python and Rust; it ends with status 1 if one differs.
 #![tactic(auto)]
+
 mod data;
 mod fnv_vectors;
 mod hmac_vectors;

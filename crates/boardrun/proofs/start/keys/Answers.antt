@@ -1,4 +1,4 @@
-use Rattle.std.proofs.Common.{◌≡◌, ℕ, ◌<◌, ◌≢◌, [], length, get_or, set, replicate, arith, length-set, get_or-set_other, get_or-set_same, below_more}
+use Rattle.std.proofs.Common.{◌≡◌, ◌<◌, ◌≢◌, [], length, get_or, set, replicate, arith, length-set, get_or-set_other, get_or-set_same, below_more}
 use Rattle.boardrun.proofs.start.keys.Goals as goal
 
 pub loop-s-preserved : goal.loop-s-preserved

@@ -11,17 +11,17 @@ use Rattle.board.specs.Standing.{Represents}
 use Rattle.boardrun.proofs.start.start.Goals as goal
 
 -- a new board of the program, by its keys and its place
-abbrev New : List (List ℕ) → ℕ → ℕ → Board Table Fnv SipSeal (Unit {0}) → Type 0
+abbrev New : List (List ℕ) → ℕ → ℕ → Board Table Fnv SipSeal → Type 0
 New keys f own b =
     Represents rows (λ m. written (fnv_words m)) (λ seal i m. sip_tag (get_or seal.keys i []) m) (λ i m. sip_tag (get_or keys i []) m) f own b []
 
-new_as : (keys keys' : List (List ℕ)) (f f' own own' : ℕ) (b b' : Board Table Fnv SipSeal (Unit {0})) → keys ≡ keys' → f ≡ f' → own ≡ own' → b' ≡ b
+new_as : (keys keys' : List (List ℕ)) (f f' own own' : ℕ) (b b' : Board Table Fnv SipSeal) → keys ≡ keys' → f ≡ f' → own ≡ own' → b' ≡ b
     → New keys f own b → New keys' f' own' b'
 new_as keys keys' f f' own own' b b' k e o s new =
     let K : List (List ℕ) → Type 0 = λ x. New x f own b in
     let F : ℕ → Type 0 = λ x. New keys' x own b in
     let O : ℕ → Type 0 = λ x. New keys' f' x b in
-    let B : Board Table Fnv SipSeal (Unit {0}) → Type 0 = λ x. New keys' f' own' x in
+    let B : Board Table Fnv SipSeal → Type 0 = λ x. New keys' f' own' x in
     subst B (sym s) (subst O o (subst F e (subst K k new)))
 
 pub returns : goal.returns
