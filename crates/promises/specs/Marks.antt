@@ -1,10 +1,11 @@
 -- Equal marks mean equal commits: two boards, whatever their stores, seals and numbers, with one digest.
-use Rattle.std.specs.Prelude.{◌≡◌, ℕ, Bool, true, ◌⊎◌, List, [], Decides, Result}
+use Rattle.std.specs.Prelude.{◌≡◌, ℕ, Bool, true, ◌⊎◌, List, [], ◌∷◌, ◌++◌, Decides, Result}
 use Rattle.fault.specs.declared.Fault.{Fault}
 use Rattle.store.specs.Slot.{Slot}
 use Rattle.request.specs.Bodies.{WriteBody}
 use Rattle.history.specs.declared.Delivery.{Delivery}
-use Rattle.history.specs.Events.{Event, effects}
+use Rattle.history.specs.Events.{Event, delivered, effects}
+use Rattle.history.specs.Answers.{Answered}
 use Rattle.history.specs.Commits.{commits}
 use Rattle.history.specs.Marks.{Clash, Extends, FirstPart, Same, SameMark, digested, frames}
 use Rattle.board.specs.declared.state.Board.{Board}
@@ -19,6 +20,13 @@ pub record Compared (digest : List ℕ → List ℕ) (r : Bool) (cs ds : List (L
   pub marks : Decides r (SameMark digest cs ds)
   pub equal : r ≡ true → (cs ≡ ds) ⊎ Clash digest (digested digest cs) (digested digest ds)
   pub same : cs ≡ ds → r ≡ true
+
+module _ {S D L : Type 0} (holds : S → ℕ → Slot) (digest : List ℕ → List ℕ) (tag_of : L → ℕ → List ℕ → List ℕ) where
+  -- A delivery's answer is the board's own: the one that its history gives, and the board then stands for the history with this delivery behind it.
+  abbrev pub OwnAnswer : List ℕ → Board S D L → Board S D L → Result Delivery Fault → Type 0
+  OwnAnswer frame before after r =
+      (tag : ℕ → List ℕ → List ℕ) (f own : ℕ) (h : List Event) → Represents holds digest tag_of tag f own before h
+      → Answered digest tag f own (effects h) (delivered frame r) × Represents holds digest tag_of tag f own after (h ++ delivered frame r ∷ [])
 
 module _ {S T D K L : Type 0} (holds : S → ℕ → Slot) (keeps : T → ℕ → Slot) (digest : List ℕ → List ℕ) (tag_of : K → ℕ → List ℕ → List ℕ) (sealOf : L → ℕ → List ℕ → List ℕ) where
   -- over all histories that the boards represent

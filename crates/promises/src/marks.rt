@@ -1,6 +1,6 @@
 // Two boards: their marks, and their answers to one frame.
 ghost use Rattle.digest.specs.Meaning.{written};
-ghost use Rattle.promises.specs.Marks.{Agreed, EqualMarks, OneAnswer};
+ghost use Rattle.promises.specs.Marks.{Agreed, EqualMarks, OneAnswer, OwnAnswer};
 
 use crate::calls::{Answer, Call, Start};
 use crate::runs::run_new;
@@ -32,7 +32,9 @@ pub fn deliver_both<S: Store, T: Store, D: Digest, K: Seal, L: Seal>(
     other: &mut Board<T, D, L>,
     frame: &[u8],
 ) -> (Result<Delivery, Fault>, Result<Delivery, Fault>)
-    ensures { OneAnswer S.Store.holds T.Store.holds (λ m. written (D.Digest.of m)) K.Seal.tag L.Seal.tag one.old other.old result.0 result.1 }
+    ensures alike { OneAnswer S.Store.holds T.Store.holds (λ m. written (D.Digest.of m)) K.Seal.tag L.Seal.tag one.old other.old result.0 result.1 }
+    ensures first { OwnAnswer S.Store.holds (λ m. written (D.Digest.of m)) K.Seal.tag frame.now one.old one.new result.0 }
+    ensures second { OwnAnswer T.Store.holds (λ m. written (D.Digest.of m)) L.Seal.tag frame.now other.old other.new result.1 }
 {
     let mine = one.deliver(frame);
     let theirs = other.deliver(frame);
