@@ -3,27 +3,27 @@
 #![tactic(auto)]
 
 ghost use Rattle.std.specs.Prelude.{◌≡◌};
-ghost use Rattle.fault.specs.Codes.{letter, number, verdict_byte};
+ghost use Rattle.fault.specs.Codes.{fault, letter, number, verdict_byte};
 
-// Why a call refused.
+// Why a call refused; the numbers are those that answers carry.
 #[derive(Clone, Copy, PartialEq, Eq, Debug)]
 pub enum Cause {
-    Malformed,
-    NotRising,
-    WrongTag,
-    Unread,
-    NotMember,
-    NoRoom,
-    WrongRange,
-    Unmatched,
-    Stale,
-    NotOpen,
-    BankFull,
-    NotCommitted,
-    Evicted,
-    NoShareDue,
-    Unsealed,
-    Settled,
+    Malformed = 1,
+    NotRising = 2,
+    WrongTag = 3,
+    Unread = 4,
+    NotMember = 5,
+    NoRoom = 6,
+    WrongRange = 7,
+    Unmatched = 8,
+    Stale = 9,
+    NotOpen = 10,
+    BankFull = 11,
+    NotCommitted = 12,
+    Evicted = 13,
+    NoShareDue = 14,
+    Unsealed = 15,
+    Settled = 16,
 }
 
 // The part of the system that found the fault.
@@ -45,43 +45,41 @@ pub struct Fault {
     pub place: u32,
 }
 
-// What a board decides of a request.
+// What a board decides of a request; the numbers are those that answers carry.
 #[derive(Clone, Copy, PartialEq, Eq, Debug)]
 pub enum Verdict {
-    Abort,
-    Commit,
+    Abort = 0,
+    Commit = 1,
 }
 
 impl Cause {
-    pub fn number(self) -> u8
-        ensures { result ≡ number self }
+    // The refusal for this cause, found by a layer at a place.
+    pub fn at(self, layer: Layer, place: u32) -> Fault
+        ensures { result ≡ fault self layer place }
     {
-        match self {
-            Cause::Malformed => 1,
-            Cause::NotRising => 2,
-            Cause::WrongTag => 3,
-            Cause::Unread => 4,
-            Cause::NotMember => 5,
-            Cause::NoRoom => 6,
-            Cause::WrongRange => 7,
-            Cause::Unmatched => 8,
-            Cause::Stale => 9,
-            Cause::NotOpen => 10,
-            Cause::BankFull => 11,
-            Cause::NotCommitted => 12,
-            Cause::Evicted => 13,
-            Cause::NoShareDue => 14,
-            Cause::Unsealed => 15,
-            Cause::Settled => 16,
+        Fault {
+            cause: self,
+            layer,
+            place,
         }
     }
 }
 
-impl Layer {
-    pub fn letter(self) -> u8
-        ensures { result ≡ letter self }
-    {
-        match self {
+// The number of a cause.
+impl From<Cause> for u8 {
+    ghost from_gives = { λ cause n. n ≡ number cause };
+
+    fn from(cause: Cause) -> u8 {
+        cause as u8
+    }
+}
+
+// The letter of a layer, in ASCII.
+impl From<Layer> for u8 {
+    ghost from_gives = { λ layer n. n ≡ letter layer };
+
+    fn from(layer: Layer) -> u8 {
+        match layer {
             Layer::Frame => b'F',
             Layer::Proof => b'P',
             Layer::Seal => b'S',
@@ -92,13 +90,11 @@ impl Layer {
     }
 }
 
-impl Verdict {
-    pub fn byte(self) -> u8
-        ensures { result ≡ verdict_byte self }
-    {
-        match self {
-            Verdict::Abort => 0,
-            Verdict::Commit => 1,
-        }
+// The byte of a verdict.
+impl From<Verdict> for u8 {
+    ghost from_gives = { λ verdict n. n ≡ verdict_byte verdict };
+
+    fn from(verdict: Verdict) -> u8 {
+        verdict as u8
     }
 }

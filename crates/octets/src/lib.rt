@@ -17,7 +17,7 @@ pub fn number_at(bytes: &[u8], at: usize) -> u32
     ensures value { result ≡ number_at bytes.now at 2 }
     ensures fits { result ≤ limit 2 }
 {
-    bytes[at] as u32 * 256 + bytes[at + 1] as u32
+    u16::from_be_bytes([bytes[at], bytes[at + 1]]).into()
 }
 
 // Puts a number to the front of a buffer.
@@ -25,8 +25,7 @@ pub fn put_number(n: u32, out: &mut [u8])
     requires { (n ≤ limit 2) × (2 ≤ length out.old) }
     ensures { out.new ≡ over (be 2 n) out.old }
 {
-    out[0] = (n / 256) as u8;
-    out[1] = (n % 256) as u8;
+    out[..2].copy_from_slice(&(n as u16).to_be_bytes());
 }
 
 // Puts bytes to the front of a buffer.
@@ -34,8 +33,7 @@ pub fn put_bytes(bytes: &[u8], out: &mut [u8])
     requires { length bytes.now ≤ length out.old }
     ensures { out.new ≡ over bytes.now out.old }
 {
-    let n = bytes.len();
-    out[0..n].copy_from_slice(bytes);
+    out[..bytes.len()].copy_from_slice(bytes);
 }
 
 // Some bytes of a string, as a part of it.
