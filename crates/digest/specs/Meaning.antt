@@ -23,6 +23,10 @@ word_bytes n =
 abbrev pub written : List ℕ → List ℕ
 written ws = flat_map word_bytes ws
 
+-- what a meaning gives of a string, as bytes
+abbrev pub bytes_by : (List ℕ → List ℕ) → List ℕ → List ℕ
+bytes_by of m = written (of m)
+
 -- A string is refused exactly when it is too long; else the answer is what f gives of it.
 abbrev pub Answers : (List ℕ → List ℕ) → List ℕ → Result (List ℕ) Fault → Type 0
 Answers f m (Ok d) = (length m ≤ longest) × (d ≡ f m)

@@ -6,7 +6,7 @@ ghost use Rattle.std.specs.Prelude.{◌≡◌, ℕ, ◌+◌, ◌*◌, ◌≤◌,
 ghost use Rattle.std.proofs.Math.Path.{refl};
 ghost use Rattle.digest.specs.Fnv.{fnv_words, hashed};
 ghost use Rattle.digest.specs.Sha.{sha_words, wide};
-ghost use Rattle.digest.specs.Meaning.{Answers, longest, written};
+ghost use Rattle.digest.specs.Meaning.{Answers, bytes_by, longest, written};
 
 use fault::{Cause, Fault, Layer};
 use sha256::hash;
@@ -24,10 +24,7 @@ const TOO_LONG: Fault = Fault {
 pub fn fits(head: &[u8], rest: &[u8]) -> bool
     ensures { Decides result (length (head.now ++ rest.now) ≤ longest) }
 {
-    if head.len() > LONGEST {
-        return false;
-    }
-    rest.len() <= LONGEST - head.len()
+    head.len().saturating_add(rest.len()) <= LONGEST
 }
 
 // A digest: its meaning is one function from byte strings to four words of 64 bits.
@@ -40,10 +37,9 @@ pub trait Digest {
 
     // The same, written as 32 bytes.
     fn digest(&self, head: &[u8], rest: &[u8]) -> Result<[u8; 32], Fault>
-        ensures { Answers (λ m. written (of m)) (head.now ++ rest.now) result }
+        ensures { Answers (bytes_by of) (head.now ++ rest.now) result }
     {
-        let words = self.words(head, rest)?;
-        Ok(write_words(words))
+        Ok(write_words(self.words(head, rest)?))
     }
 
     ghost four: { (m : List ℕ) → length (of m) ≡ 4 };
@@ -54,18 +50,8 @@ pub fn write_words(words: [u64; 4]) -> [u8; 32]
     ensures { result ≡ written words }
 {
     let mut out = [0; 32];
-    put_words(&words, &mut out);
+    out.copy_from_slice(words.map(u64::to_be_bytes).as_flattened());
     out
-}
-
-fn put_words(words: &[u64], out: &mut [u8])
-    requires { length out.old ≡ 8 * length words.now }
-    ensures { out.new ≡ written words.now }
-{
-    for i in 0..words.len() {
-        let word = words[i].to_be_bytes();
-        out[8 * i..8 * i + 8].copy_from_slice(&word);
-    }
 }
 
 // 64-bit FNV-1a, then the length, then two zero words: quick, and no match for a hostile client.
@@ -76,6 +62,7 @@ fn fold(start: u64, bytes: &[u8]) -> u64
     ensures { result ≡ hashed start bytes.now }
 {
     let mut hash = start;
+    // A loop: what `bytes.iter().fold(..)` answers was tried and stayed unproved.
     for b in bytes {
         hash = (hash ^ u64::from(*b)).wrapping_mul(1099511628211);
     }
@@ -117,6 +104,7 @@ impl Digest for Sha256 {
     ghost four = { unfold sha_words in λ m. refl };
 
     fn words(&self, head: &[u8], rest: &[u8]) -> Result<[u64; 4], Fault> {
+        // A match: through `map` and `ok_or` what the words are was tried and stayed unproved.
         match hash(head, rest) {
             Some(h) => Ok(pairs(h)),
             None => Err(TOO_LONG),

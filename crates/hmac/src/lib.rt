@@ -10,8 +10,8 @@ use sha256::{bytes, hash_behind};
 fn mask(block: &mut [u8], x: u8)
     ensures { block.new ≡ block.old ⊕ x }
 {
-    for k in 0..block.len() {
-        block[k] = x ^ block[k];
+    for b in block.iter_mut() {
+        *b = x ^ *b;
     }
 }
 
@@ -20,18 +20,17 @@ fn lay_key(block: &mut [u8], key: &[u8; 32])
     requires { block.old ≡ replicate 64 0 }
     ensures { block.new ≡ filled key.now }
 {
-    block[0..32].copy_from_slice(key);
+    block[..32].copy_from_slice(key);
 }
 
 // The hash of the key block under a mask and the two parts.
 fn keyed(key: &[u8; 32], x: u8, head: &[u8], rest: &[u8]) -> Option<[u8; 32]>
     ensures { Keyed key.now x (head.now ++ rest.now) result }
 {
-    let mut block = [0u8; 64];
+    let mut block = [0; 64];
     lay_key(&mut block, key);
     mask(&mut block, x);
-    let words = hash_behind(&block, head, rest)?;
-    Some(bytes(words))
+    Some(bytes(hash_behind(&block, head, rest)?))
 }
 
 fn inner(key: &[u8; 32], head: &[u8], rest: &[u8]) -> Option<[u8; 32]>
@@ -43,16 +42,14 @@ fn inner(key: &[u8; 32], head: &[u8], rest: &[u8]) -> Option<[u8; 32]>
 fn outer(key: &[u8; 32], digest: &[u8; 32]) -> Option<[u8; 32]>
     ensures { Keyed key.now opad digest.now result }
 {
-    keyed(key, 0x5c, &digest[0..0], digest)
+    keyed(key, 0x5c, &[], digest)
 }
 
 // HMAC-SHA-256 of head followed by rest; None where they have more than 65,535 bytes in all.
 pub fn hmac(key: &[u8; 32], head: &[u8], rest: &[u8]) -> Option<[u8; 32]>
     ensures { Coded (λ t. t) key.now (head.now ++ rest.now) result }
 {
-    let digest = inner(key, head, rest)?;
-    let code = outer(key, &digest)?;
-    Some(code)
+    outer(key, &inner(key, head, rest)?)
 }
 
 // The first sixteen bytes of HMAC-SHA-256.
@@ -61,6 +58,6 @@ pub fn tag(key: &[u8; 32], head: &[u8], rest: &[u8]) -> Option<[u8; 16]>
 {
     let whole = hmac(key, head, rest)?;
     let mut first = [0u8; 16];
-    first.copy_from_slice(&whole[0..16]);
+    first.copy_from_slice(&whole[..16]);
     Some(first)
 }

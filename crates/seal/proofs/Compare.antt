@@ -1,8 +1,7 @@
 -- Two strings compared byte by byte, with the differences collected by bitwise or.
-use Rattle.std.proofs.Common.{◌≡◌, ℕ, ◌+◌, ◌<◌, ◌≤◌, List, length, get_or, take, sym, ap, ◌∙◌, arith}
+use Rattle.std.proofs.Common.{◌≡◌, ℕ, List, ◌∷◌, length, sym, ap, ◌∙◌, arith, get_or, drop}
 use lib.Bits.{bit_or, bit_xor, or_add_and, xor_add_and, xor_self}
 use Rattle.std.proofs.lemmas.Nat.{and_le_l, and_le_r}
-use Rattle.std.proofs.lemmas.List.{same_from_push, take_all, take_more, take_more_same}
 
 or_none : (p q : ℕ) → bit_or p q ≡ 0 → (p ≡ 0) × (q ≡ 0)
 or_none p q e =
@@ -18,19 +17,21 @@ xor_none x y e =
     let r = and_le_r x y in
     omega arith
 
--- no difference is noted exactly when the first i bytes are the same
-abbrev pub Noted : List ℕ → List ℕ → ℕ → ℕ → Type 0
-Noted xs ys d i = (d ≡ 0 → take i xs ≡ take i ys) × (take i xs ≡ take i ys → d ≡ 0)
+first : (x y : ℕ) (us vs : List ℕ) → x ∷ us ≡ y ∷ vs → x ≡ y
+first x y us vs e = ap (λ l. get_or l 0 0) e
 
-pub noted_more : (xs ys : List ℕ) (d i : ℕ) → i < length xs → i < length ys → Noted xs ys d i → Noted xs ys (bit_or d (bit_xor (get_or ys i 0) (get_or xs i 0))) (i + 1)
-noted_more xs ys d i la lb n =
-    let x : ℕ = get_or ys i 0 in
-    let y : ℕ = get_or xs i 0 in (
-      (λ e. let o = or_none d (bit_xor x y) e in take_more_same xs ys i 0 la lb (n.0 o.0) (sym (xor_none x y o.1))),
-      (λ e. let s = same_from_push (take i xs) (take i ys) y x (sym (take_more xs i 0 la) ∙ e ∙ take_more ys i 0 lb) in
-          ap (λ (k : ℕ). bit_or k (bit_xor x y)) (n.1 s.0) ∙ ap (λ (k : ℕ). bit_xor x k) s.1 ∙ xor_self x),
-    )
+behind : (x y : ℕ) (us vs : List ℕ) → x ∷ us ≡ y ∷ vs → us ≡ vs
+behind x y us vs e = ap (drop 1) e
 
-pub noted_all : (xs ys : List ℕ) (d i : ℕ) → length xs ≤ i → length ys ≤ i → Noted xs ys d i → (d ≡ 0 → xs ≡ ys) × (xs ≡ ys → d ≡ 0)
-noted_all xs ys d i la lb n =
-    ((λ e. sym (take_all i xs la) ∙ n.0 e ∙ take_all i ys lb), (λ e. n.1 (ap (take i) e)))
+-- no difference is noted, and what is left is the same, exactly when the whole strings are the same
+abbrev pub Noted : List ℕ → List ℕ → ℕ → List ℕ → List ℕ → Type 0
+Noted xs ys d us vs = (length us ≡ length vs) × (d ≡ 0 → us ≡ vs → xs ≡ ys) × (xs ≡ ys → (d ≡ 0) × (us ≡ vs))
+
+pub noted_more : (xs ys : List ℕ) (d x y : ℕ) (us vs us' vs' : List ℕ) → us ≡ x ∷ us' → vs ≡ y ∷ vs' → Noted xs ys d us vs → Noted xs ys (bit_or d (bit_xor y x)) us' vs'
+noted_more xs ys d x y us vs us' vs' a b n = (
+  (let l = ap length a in let r = ap length b in let o = n.0 in omega arith),
+  (λ e s. let o = or_none d (bit_xor y x) e in let q : y ≡ x = xor_none y x o.1 in n.1 o.0 (cc)),
+  (λ e. let s = n.2 e in
+      let t : x ∷ us' ≡ y ∷ vs' = sym a ∙ s.1 ∙ b in
+      (ap (λ (k : ℕ). bit_or k (bit_xor y x)) s.0 ∙ ap (λ (k : ℕ). bit_xor y k) (first x y us' vs' t) ∙ xor_self y, behind x y us' vs' t)),
+)

@@ -10,6 +10,7 @@ ghost use Rattle.seal.specs.Seals.{Checked, Made, Verified, client_signer, passe
 
 use fault::{Cause, Fault, Layer};
 
+pub mod keyed;
 pub mod mac;
 pub mod sip;
 
@@ -35,7 +36,11 @@ pub trait Seal {
 
     // Says whether a tag passes.
     fn check(&self, signer: u8, head: &[u8], rest: &[u8], given: &[u8]) -> Result<bool, Fault>
-        ensures { Checked (passes (tag self.now)) signer (head.now ++ rest.now) given.now result };
+        ensures { Checked (passes (tag self.now)) signer (head.now ++ rest.now) given.now result }
+    {
+        let right = self.make(signer, head, rest)?;
+        Ok(equal(&right, given))
+    }
 
     // Refuses a tag that does not pass; `place` says where the tag stands.
     fn verify(
@@ -51,11 +56,7 @@ pub trait Seal {
         if self.check(signer, head, rest, given)? {
             Ok(())
         } else {
-            Err(Fault {
-                cause: Cause::WrongTag,
-                layer: Layer::Seal,
-                place,
-            })
+            Err(Cause::WrongTag.at(Layer::Seal, place))
         }
     }
 
@@ -81,11 +82,7 @@ pub(crate) fn key_place(signer: u8) -> Result<usize, Fault>
     ensures { MatchResult result (λ i. (signer ≤ 31) × (i ≡ signer)) (λ e. (31 < signer) × (e ≡ fault Malformed Frame 0)) }
 {
     if signer > LAST_SIGNER {
-        return Err(Fault {
-            cause: Cause::Malformed,
-            layer: Layer::Frame,
-            place: 0,
-        });
+        return Err(Cause::Malformed.at(Layer::Frame, 0));
     }
     Ok(signer as usize)
 }
@@ -98,8 +95,8 @@ pub(crate) fn equal(right: &[u8; 16], given: &[u8]) -> bool
         return false;
     }
     let mut apart = 0;
-    for i in 0..16 {
-        apart |= right[i] ^ given[i];
+    for (a, b) in right.iter().zip(given) {
+        apart |= a ^ b;
     }
     apart == 0
 }

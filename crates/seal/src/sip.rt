@@ -1,32 +1,22 @@
 // The seal by SipHash-2-4: fast, and its tags have 64 bits that count.
-ghost use Rattle.std.specs.Prelude.{◌≡◌, List, [], ◌++◌, take, replicate, slice_index_or};
-ghost use Rattle.seal.specs.Seals.{Made};
+ghost use Rattle.std.specs.Prelude.{◌≡◌, List, ◌++◌, take, replicate};
 ghost use Rattle.seal.specs.Sip.{low_first, sip_tag};
 ghost use Rattle.std.proofs.Common.{rules};
 
-use crate::{LONGEST, Seal, TOO_LONG, equal, key_place, whole_length};
-use fault::Fault;
+use crate::keyed::{Algorithm, KeyedSeal};
+use crate::{LONGEST, whole_length};
 use siphash::siphash;
 
-// The keys of the 32 signers.
 #[derive(Clone, Copy)]
-pub struct SipSeal {
-    keys: [[u8; 32]; 32],
-}
+pub struct Sip;
 
-impl SipSeal {
-    pub fn new(keys: [[u8; 32]; 32]) -> SipSeal
-        ensures { result.keys ≡ keys }
-    {
-        SipSeal { keys }
-    }
-}
+pub type SipSeal = KeyedSeal<Sip>;
 
 fn first_half(key: &[u8; 32]) -> [u8; 16]
     ensures { result ≡ take 16 key.now }
 {
     let mut half = [0; 16];
-    half.copy_from_slice(&key[0..16]);
+    half.copy_from_slice(&key[..16]);
     half
 }
 
@@ -45,21 +35,15 @@ fn sip_tag(key: &[u8; 32], head: &[u8], rest: &[u8]) -> [u8; 16]
     widened(siphash(&half, head, rest))
 }
 
-impl Seal for SipSeal {
-    ghost tag = { λ s i m. sip_tag (slice_index_or s.keys i []) m };
+impl Algorithm for Sip {
+    ghost tag = { sip_tag };
 
     ghost sixteen = { Prim.search rules };
 
-    fn make(&self, signer: u8, head: &[u8], rest: &[u8]) -> Result<[u8; 16], Fault> {
-        let i = key_place(signer)?;
+    fn tag(key: &[u8; 32], head: &[u8], rest: &[u8]) -> Option<[u8; 16]> {
         if whole_length(head, rest) > LONGEST {
-            return Err(TOO_LONG);
+            return None;
         }
-        Ok(sip_tag(&self.keys[i], head, rest))
-    }
-
-    fn check(&self, signer: u8, head: &[u8], rest: &[u8], given: &[u8]) -> Result<bool, Fault> {
-        let right = self.make(signer, head, rest)?;
-        Ok(equal(&right, given))
+        Some(sip_tag(key, head, rest))
     }
 }

@@ -1,16 +1,8 @@
 -- The hash value over the blocks of a string that is cut between two blocks.
-use Rattle.std.proofs.Common.{◌≡◌, ℕ, zero, suc, ◌+◌, ◌*◌, ◌/◌, ◌≤◌, List, ◌++◌, length, take, drop, refl, ap, ◌∙◌, add-zero, add-suc, add-one, arith, length-append}
+use Rattle.std.proofs.Common.{◌≡◌, ℕ, zero, suc, ◌+◌, ◌*◌, ◌/◌, ◌<◌, ◌≤◌, List, ◌++◌, length, take, drop, sym, refl, ap, ◌∙◌, add-zero, add-suc, arith, length-append}
 use Rattle.std.proofs.lemmas.List.{drop-append-le, take-append-le, drop-drop, length-drop, take_at, drop_at}
 use Rattle.sha256.specs.Block.{compressed}
 use Rattle.sha256.specs.Hash.{block, after, after_all}
-
-pub after_none : (h p : List ℕ) → h ≡ after h p 0
-unfolding after
-after_none h p = refl
-
-pub after_more : (h p s b : List ℕ) (i : ℕ) → s ≡ after h p i → b ≡ compressed s (block p i) → b ≡ after h p (i + 1)
-unfolding after
-after_more h p s b i es eb = rw add-one (cc)
 
 after_split : (h p : List ℕ) (i j : ℕ) → after h p (i + j) ≡ after (after h p i) (drop (64 * i) p) j
 unfolding after
@@ -58,9 +50,14 @@ one : (h p : List ℕ) → after h p 1 ≡ compressed h (take 64 p)
 unfolding after
 one h p = refl
 
-none_left : (h p : List ℕ) → length p ≡ 0 → after_all h p ≡ h
+none_left : (h p : List ℕ) → length p < 64 → after_all h p ≡ h
 unfolding after_all after
-none_left h p e = ap (λ (n : ℕ). after h p (n / 64)) e
+none_left h p lt = let z : length p / 64 ≡ 0 = omega arith in ap (after h p) z
+
+-- a value from which no block is left, and from which what is left gives what all of m does
+pub all_taken : (start m h p : List ℕ) → length p < 64 → after_all h p ≡ after_all start m → h ≡ after start m (length m / 64)
+unfolding after_all
+all_taken start m h p lt e = sym (none_left h p lt) ∙ e
 
 -- one block in front
 pub first_block : (h b t : List ℕ) → length b ≡ 64 → after_all h (b ++ t) ≡ after_all (compressed h b) t
@@ -76,7 +73,7 @@ pub only-block : (h b : List ℕ) → length b ≡ 64 → after_all h b ≡ comp
 only-block h b e =
     let a : 64 * 1 ≤ length b = omega arith in
     let d = length-drop 64 b in
-    let z : length (drop 64 b) ≡ 0 = omega arith in
+    let z : length (drop 64 b) < 64 = omega arith in
     cut h b 1 a ∙ none_left (after h b 1) (drop 64 b) z ∙ one h b
 
 -- a hash value has eight words

@@ -1,8 +1,8 @@
 -- A message in two parts, and one whose first block stands apart.
-use Rattle.std.proofs.Common.{◌≡◌, ℕ, ◌+◌, ◌-◌, ◌*◌, ◌/◌, ◌≤◌, List, ◌++◌, length, take, drop, Some, sym, refl, ap, ◌∙◌, append_assoc, arith, length-append}
+use Rattle.std.proofs.Common.{◌≡◌, ℕ, ◌+◌, ◌*◌, ◌/◌, ◌≤◌, List, ◌++◌, length, take, drop, Some, sym, refl, ap, ◌∙◌, append_assoc, arith, length-append}
 use Rattle.std.proofs.lemmas.List.{take-append-drop, length-take-le, take_at, take_all}
 use Rattle.std.proofs.lemmas.Slice.{take-put_mid}
-use borrow.Rule.Slice.PartMut.{put_mid, post_of}
+use borrow.Rule.Slice.PartMut.{put_mid}
 use Rattle.sha256.specs.Constants.{initial}
 use Rattle.sha256.specs.Block.{compressed}
 use Rattle.sha256.specs.Padding.{padding, padded}
@@ -11,14 +11,14 @@ use Rattle.sha256.proofs.Blocks.{cut_front, first_block, length-after}
 
 -- two strings laid one behind the other
 pub joined-laid : (bytes head rest a b : List ℕ) (k : ℕ) → length head + length rest ≤ length bytes → a ≡ head → b ≡ rest
-    → take (length head + length rest) (put_mid (length head) k (a ++ post_of 0 (length head - 0) bytes) b) ≡ head ++ rest
+    → take (length head + length rest) (put_mid (length head) k (a ++ drop (length head) bytes) b) ≡ head ++ rest
 joined-laid bytes head rest a b k room ea eb =
-    let xs : List ℕ = a ++ drop (length head - 0) bytes in
-    let la = length-append a (drop (length head - 0) bytes) in
+    let xs : List ℕ = a ++ drop (length head) bytes in
+    let la = length-append a (drop (length head) bytes) in
     let lh = ap length ea in
     let lr = ap length eb in
     take-put_mid (length head) k xs b (length head + length rest) (omega arith) (omega arith)
-    ∙ ap (λ (ys : List ℕ). ys ++ b) (take_at a (drop (length head - 0) bytes) (length head) lh ∙ ea)
+    ∙ ap (λ (ys : List ℕ). ys ++ b) (take_at a (drop (length head) bytes) (length head) lh ∙ ea)
     ∙ ap (λ (ys : List ℕ). head ++ ys) eb
 
 -- the full blocks of head, then what is left of it with rest and the padding

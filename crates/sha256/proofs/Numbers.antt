@@ -1,27 +1,21 @@
--- Numbers as bytes, as the code's conversions give them.
-use Rattle.std.proofs.Common.{◌≡◌, ℕ, zero, suc, ◌+◌, ◌*◌, ◌<◌, ◌≤◌, List, [], ◌∷◌, ◌++◌, length, get_or, take, sym, refl, ap, ◌∙◌, arith, length-append}
-use borrow.Rule.Slice.PartMut.{put_mid}
-use Rattle.std.proofs.lemmas.List.{take_more, flat_map_more}
-use Rattle.std.proofs.lemmas.Slice.{take-put_mid}
+-- Numbers as bytes, and words laid one behind the other.
+use Rattle.std.proofs.Common.{◌≡◌, ℕ, zero, suc, ◌*◌, ◌<◌, List, [], ◌∷◌, length, get_or, map, sym, refl, ap, ◌∙◌, arith, length-append}
+use Rattle.std.proofs.lemmas.List.{ext_get_or, get_or-map, length-map}
+use Rattle.std.proofs.lemmas.List.Folds.{flat_map-map}
+use Rattle.std.specs.List.{flat_map}
 use Rattle.sha256.specs.Padding.{big_endian, bytes_of}
 
 pub length-big_endian : (n x : ℕ) → length (big_endian n x) ≡ n
 length-big_endian zero x = refl
 length-big_endian (suc n) x = ap suc (length-big_endian n x)
 
--- one word more written behind the words before it
-pub word-written : (out ws b : List ℕ) (i k x : ℕ) → i < length ws → 4 * i ≤ length out → x ≡ get_or ws i 0 → b ≡ big_endian 4 x
-    → take (4 * i) out ≡ bytes_of (take i ws)
-    → take (4 * (i + 1)) (put_mid (4 * i) k out b) ≡ bytes_of (take (i + 1) ws)
-word-written out ws b i k x lt room ex eb inv =
-    let l = length-big_endian 4 x in
-    let lb : length b ≡ 4 = ap length eb ∙ l in
-    let m = take_more ws i 0 lt in
-    take-put_mid (4 * i) k out b (4 * (i + 1)) (omega arith) room
-    ∙ ap (λ (ys : List ℕ). ys ++ b) inv
-    ∙ ap (λ (ys : List ℕ). bytes_of (take i ws) ++ ys) (eb ∙ ap (big_endian 4) ex)
-    ∙ flat_map_more (big_endian 4) [] (take i ws) (get_or ws i 0)
-    ∙ ap bytes_of (sym m)
+-- what f gives of each word, one behind the other
+pub laid : (f : ℕ → List ℕ) (ws : List ℕ) (rs : List (List ℕ)) → length rs ≡ length ws → ((i : ℕ) → i < length ws → get_or rs i [] ≡ f (get_or ws i 0))
+    → flat_map (λ x. x) rs ≡ flat_map f ws
+laid f ws rs long each =
+    let all : length rs ≡ length (map f ws) = omega (arith, long, length-map ws f) in
+    ap (flat_map (λ x. x)) (ext_get_or [] rs (map f ws) all (λ i h. (let k : i < length ws = omega arith in each i k ∙ sym (get_or-map f ws i 0 [] k))))
+    ∙ flat_map-map (λ x. x) f ws
 
 pub length-bytes_of : (ws : List ℕ) → length (bytes_of ws) ≡ 4 * length ws
 length-bytes_of [] = refl

@@ -3,7 +3,7 @@ use Rattle.std.proofs.Common.{◌≡◌, ℕ, suc, ◌+◌, ◌-◌, ◌*◌, �
 use lib.ListN.{length-replicate}
 use Rattle.std.proofs.lemmas.List.{take-replicate, take-take, drop-replicate, length-set, length-take-le, take-append-drop, drop-take}
 use Rattle.std.proofs.lemmas.Slice.{take-put_mid}
-use borrow.Rule.Slice.PartMut.{put_mid, post_of}
+use borrow.Rule.Slice.PartMut.{put_mid}
 use Rattle.sha256.specs.Block.{compressed}
 use Rattle.sha256.specs.Padding.{big_endian, zeros, padding, padded}
 use Rattle.sha256.specs.Hash.{after_all}
@@ -42,14 +42,12 @@ filled rest end n k lo hi =
 -- what is laid up to `end` in a buffer of 128 zero bytes
 pub end-laid : (rest last a b : List ℕ) (end n k : ℕ) → last ≡ replicate 128 0 → length rest + 9 ≤ end → end ≤ 128
     → a ≡ rest → b ≡ big_endian 8 (8 * n)
-    → take end (put_mid (end - 8) k (set (a ++ post_of 0 (length rest - 0) last) (length rest) 128) b)
+    → take end (put_mid (end - 8) k (set (a ++ drop (length rest) last) (length rest) 128) b)
     ≡ rest ++ (128 ∷ replicate (end - 9 - length rest) 0 ++ big_endian 8 (8 * n))
 end-laid rest last a b end n k el lo hi ea eb =
-    let z : length rest - 0 ≡ length rest = omega arith in
-    let d : drop (length rest - 0) last ≡ replicate (128 - length rest) 0 =
-    ap (λ (n : ℕ). drop n last) z ∙ ap (drop (length rest)) el ∙ drop-replicate (length rest) 128 0 in
+    let d : drop (length rest) last ≡ replicate (128 - length rest) 0 = ap (drop (length rest)) el ∙ drop-replicate (length rest) 128 0 in
     let t = filled rest end n k lo hi in
-    ap (λ (ys : List ℕ). take end (put_mid (end - 8) k (set (ys ++ drop (length rest - 0) last) (length rest) 128) b)) ea
+    ap (λ (ys : List ℕ). take end (put_mid (end - 8) k (set (ys ++ drop (length rest) last) (length rest) 128) b)) ea
     ∙ ap (λ (ys : List ℕ). take end (put_mid (end - 8) k (set (rest ++ ys) (length rest) 128) b)) d
     ∙ ap (λ (ys : List ℕ). take end (put_mid (end - 8) k (set (rest ++ replicate (128 - length rest) 0) (length rest) 128) ys)) eb
     ∙ t

@@ -42,16 +42,7 @@ fn one_round(s: [u32; 8], k: u32, w: u32) -> [u32; 8]
 fn add_words(s: [u32; 8], h: [u32; 8]) -> [u32; 8]
     ensures { result ≡ added s h }
 {
-    [
-        s[0].wrapping_add(h[0]),
-        s[1].wrapping_add(h[1]),
-        s[2].wrapping_add(h[2]),
-        s[3].wrapping_add(h[3]),
-        s[4].wrapping_add(h[4]),
-        s[5].wrapping_add(h[5]),
-        s[6].wrapping_add(h[6]),
-        s[7].wrapping_add(h[7]),
-    ]
+    std::array::from_fn(|i| s[i].wrapping_add(h[i]))
 }
 
 // The hash value after one more block.
@@ -61,6 +52,7 @@ pub(crate) fn compress(h: [u32; 8], bytes: &[u8]) -> [u32; 8]
 {
     let mut w = [0u32; 64];
     let mut s = h;
+    // By number: a word reads earlier words of the table that this loop fills.
     for t in 0..64 {
         let x = if t < 16 {
             own_word(bytes, t)
@@ -68,6 +60,7 @@ pub(crate) fn compress(h: [u32; 8], bytes: &[u8]) -> [u32; 8]
             next_word(&w, t)
         };
         w[t] = x;
+        // Through a name: the prover follows no array from a call straight into one that a loop keeps.
         let turned = one_round(s, round_constant(t), x);
         s = turned;
     }

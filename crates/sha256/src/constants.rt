@@ -99,9 +99,5 @@ pub(crate) fn round_constant(t: usize) -> u32
 pub fn constant(t: usize) -> Option<u32>
     ensures { Constant t result }
 {
-    if t < 64 {
-        Some(round_constant(t))
-    } else {
-        None
-    }
+    ROUND.get(t).copied()
 }

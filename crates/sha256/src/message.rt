@@ -10,13 +10,6 @@ use crate::constants::start;
 // The longest message, in bytes.
 const LONGEST: usize = 65535;
 
-// A word's four bytes, the high byte first.
-fn word_bytes(x: u32) -> [u8; 4]
-    ensures { result ≡ big_endian 4 x }
-{
-    x.to_be_bytes()
-}
-
 // The length of n bytes in bits, as eight bytes, the high byte first.
 fn length_bytes(n: usize) -> [u8; 8]
     requires { n ≤ 131072 }
@@ -34,7 +27,7 @@ fn lay_end(last: &mut [u8], rest: &[u8], end: usize, n: usize)
     ensures { take end last.new ≡ rest.now ++ (128 ∷ replicate (end - 9 - length rest.now) 0 ++ big_endian 8 (8 * n)) }
 {
     let r = rest.len();
-    last[0..r].copy_from_slice(rest);
+    last[..r].copy_from_slice(rest);
     last[r] = 0x80;
     last[end - 8..end].copy_from_slice(&length_bytes(n));
 }
@@ -60,10 +53,10 @@ fn finish(h: [u32; 8], rest: &[u8], n: usize) -> [u32; 8]
 fn absorb(start: [u32; 8], m: &[u8]) -> [u32; 8]
     ensures { result ≡ after start m.now (length m.now / 64) }
 {
-    let full = m.len() / 64;
     let mut h = start;
-    for i in 0..full {
-        let next = compress(h, &m[64 * i..64 * i + 64]);
+    for block in m.chunks_exact(64) {
+        // Through a name: the prover follows no array from a call straight into one that a loop keeps.
+        let next = compress(h, block);
         h = next;
     }
     h
@@ -77,7 +70,7 @@ fn hash_after(start: [u32; 8], m: &[u8], n: usize) -> [u32; 8]
 {
     let full = m.len() / 64;
     let h = absorb(start, m);
-    finish(h, &m[64 * full..m.len()], n)
+    finish(h, &m[64 * full..], n)
 }
 
 // Lays one string behind the other at the front of a block.
@@ -87,7 +80,7 @@ fn join(bytes: &mut [u8], head: &[u8], rest: &[u8])
 {
     let a = head.len();
     let b = a + rest.len();
-    bytes[0..a].copy_from_slice(head);
+    bytes[..a].copy_from_slice(head);
     bytes[a..b].copy_from_slice(rest);
 }
 
@@ -110,11 +103,11 @@ fn hash_joined(h: [u32; 8], tail: &[u8], rest: &[u8], n: usize) -> [u32; 8]
     let mut bytes = [0u8; 64];
     if rest.len() < room {
         join(&mut bytes, tail, rest);
-        finish(h, &bytes[0..tail.len() + rest.len()], n)
+        finish(h, &bytes[..tail.len() + rest.len()], n)
     } else {
-        join(&mut bytes, tail, &rest[0..room]);
+        join(&mut bytes, tail, &rest[..room]);
         let s = compress(h, &bytes);
-        hash_after(s, &rest[room..rest.len()], n)
+        hash_after(s, &rest[room..], n)
     }
 }
 
@@ -128,7 +121,7 @@ fn hash_parts(start: [u32; 8], head: &[u8], rest: &[u8], before: usize) -> [u32;
     let h = absorb(start, head);
     hash_joined(
         h,
-        &head[64 * full..head.len()],
+        &head[64 * full..],
         rest,
         before + head.len() + rest.len(),
     )
@@ -163,21 +156,12 @@ pub fn hash_behind(first: &[u8; 64], head: &[u8], rest: &[u8]) -> Option<[u32; 8
     Some(hash_parts(h, head, rest, 64))
 }
 
-fn write_words(out: &mut [u8], words: &[u32])
-    requires { length out.old ≡ 4 * length words.now }
-    ensures { out.new ≡ bytes_of words.now }
-{
-    for i in 0..words.len() {
-        out[4 * i..4 * i + 4].copy_from_slice(&word_bytes(words[i]));
-    }
-}
-
 // A digest's eight words as its thirty-two bytes.
 pub fn bytes(words: [u32; 8]) -> [u8; 32]
     ensures { result ≡ bytes_of words }
 {
-    let mut out = [0u8; 32];
-    write_words(&mut out, &words);
+    let mut out = [0; 32];
+    out.copy_from_slice(words.map(u32::to_be_bytes).as_flattened());
     out
 }
 

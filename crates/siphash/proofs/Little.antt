@@ -28,16 +28,6 @@ eight b r e h =
     let p8 : little (drop 8 b) ≡ 0 = little-none b 8 (omega arith) in
     omega arith
 
--- the byte before the place i goes in front
-pub in_front : (b t : List ℕ) (i x w : ℕ) → 0 < i → i ≤ length b → x ≡ get_or b (i - 1) 0 → w ≡ little (drop i b ++ t) → w * 256 + x ≡ little (drop (i - 1) b ++ t)
-unfolding little
-in_front b t i x w lo hi ex ew =
-    let e : i - 1 + 1 ≡ i = omega arith in
-    let d : drop (i - 1) b ≡ get_or b (i - 1) 0 ∷ drop i b =
-    drop_more b (i - 1) 0 (omega arith) ∙ ap (λ (k : ℕ). get_or b (i - 1) 0 ∷ drop k b) e in
-    let s : little (drop (i - 1) b ++ t) ≡ get_or b (i - 1) 0 + 256 * little (drop i b ++ t) = ap (λ (xs : List ℕ). little (xs ++ t)) d in
-    omega arith
-
 pub grown : (w x j : ℕ) → w < 256 ^ j → x < 256 → w * 256 + x < 256 ^ (j + 1)
 grown w x j hw hx = let p = pow-suc 256 j in rw add-one (omega arith)
 

@@ -1,17 +1,9 @@
 -- The state after the words of a string, part by part.
-use Rattle.std.proofs.Common.{◌≡◌, ℕ, zero, suc, ◌+◌, ◌*◌, ◌/◌, ◌%◌, ◌^◌, ◌<◌, ◌≤◌, List, [], ◌++◌, length, take, drop, sym, refl, ap, ◌∙◌, add-zero, add-suc, add-one, arith, length-append}
+use Rattle.std.proofs.Common.{◌≡◌, ℕ, zero, suc, ◌+◌, ◌*◌, ◌/◌, ◌%◌, ◌^◌, ◌<◌, ◌≤◌, List, [], ◌++◌, length, take, drop, sym, refl, ap, ◌∙◌, add-zero, add-suc, arith, length-append}
 use Rattle.std.proofs.lemmas.List.{append_assoc, append-nil, drop-append-le, drop_at, drop-drop, length-drop, take_all, take-append-le}
 use Rattle.siphash.specs.declared.State.{State}
 use Rattle.siphash.specs.SipHash.{compressed, ending, finalized, keyed, little, run, sip_hash, sip_hash24, word}
 use Rattle.siphash.proofs.Little.{last_word, length-ending}
-
-pub run_none : (c : ℕ) (s : State) (m : List ℕ) → s ≡ run c s m 0
-unfolding run
-run_none c s m = refl
-
-pub run_more : (c : ℕ) (s v r : State) (m : List ℕ) (i w : ℕ) → v ≡ run c s m i → w ≡ word m i → r ≡ compressed c w v → r ≡ run c s m (i + 1)
-unfolding run
-run_more c s v r m i w ev ew er = rw add-one (er ∙ ap (λ (x : ℕ). compressed c x v) ew ∙ ap (compressed c (word m i)) ev)
 
 front : (m t : List ℕ) (i : ℕ) → 8 * i + 8 ≤ length m → word (m ++ t) i ≡ word m i
 front m t i l =
@@ -47,6 +39,19 @@ after c s a q i j e =
 single : (c : ℕ) (s : State) (a : List ℕ) → length a ≡ 8 → run c s a 1 ≡ compressed c (little a) s
 unfolding run
 single c s a e = ap (λ (x : List ℕ). compressed c (little x) s) (take_all 8 a (omega arith))
+
+-- a word in front
+pub one_more : (c : ℕ) (s : State) (a q : List ℕ) → length a ≡ 8
+    → run c (compressed c (little a) s) q (length q / 8) ≡ run c s (a ++ q) (length (a ++ q) / 8)
+one_more c s a q e =
+    let j : length (a ++ q) / 8 ≡ 1 + length q / 8 = omega (arith, length-append a q) in
+    ap (λ (v : State). run c v q (length q / 8)) (sym (single c s a e))
+    ∙ sym (after c s a q 1 (length q / 8) e) ∙ ap (run c s (a ++ q)) (sym j)
+
+-- no whole word
+pub none_left : (c : ℕ) (s : State) (q : List ℕ) → length q < 8 → s ≡ run c s q (length q / 8)
+unfolding run
+none_left c s q lt = let z : 0 ≡ length q / 8 = omega arith in ap (run c s q) z
 
 last : (c : ℕ) (s : State) (t : List ℕ) (n : ℕ) → length t ≡ n % 8 → run c s (t ++ ending n) 1 ≡ compressed c (little t + n % 256 * 256 ^ 7) s
 last c s t n e =

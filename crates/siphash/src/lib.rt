@@ -54,7 +54,7 @@ fn rounds(start: State, n: usize) -> State
     ensures { result ≡ sip_rounds n start }
 {
     let mut s = start;
-    for _i in 0..n {
+    for _ in 0..n {
         s = sip_round(s);
     }
     s
@@ -103,7 +103,7 @@ fn word(b: &[u8]) -> u64
 fn begin(key: &[u8; 16]) -> State
     ensures { result ≡ keyed key.now }
 {
-    initialize(word(&key[0..8]), word(&key[8..16]))
+    initialize(word(&key[..8]), word(&key[8..]))
 }
 
 // The length of a string in two parts, as far as the last byte of its last word holds it.
@@ -121,8 +121,8 @@ fn prefixed(b: &[u8], high: u64) -> u64
     ensures bound { (k : ℕ) → high < 256 ^ k → result < 256 ^ (length b.now + k) }
 {
     let mut w = high;
-    for i in (0..b.len()).rev() {
-        w = w * 256 + u64::from(b[i]);
+    for byte in b.iter().rev() {
+        w = w * 256 + u64::from(*byte);
     }
     w
 }
@@ -145,8 +145,8 @@ fn absorb(start: State, m: &[u8]) -> State
     ensures { result ≡ run 2 start m.now (length m.now / 8) }
 {
     let mut s = start;
-    for i in 0..m.len() / 8 {
-        s = compress(s, word(&m[8 * i..8 * i + 8]));
+    for block in m.chunks_exact(8) {
+        s = compress(s, word(block));
     }
     s
 }

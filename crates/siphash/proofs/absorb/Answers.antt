@@ -1,20 +1,24 @@
-use Rattle.std.proofs.Common.{◌≡◌, ℕ, ◌+◌, ◌-◌, ◌*◌, ◌/◌, List, length, take, drop, ap, ◌∙◌, arith}
-use Rattle.siphash.specs.SipHash.{little, run}
-use Rattle.siphash.proofs.Words.{run_none, run_more}
+use Rattle.std.proofs.Common.{ℕ, ◌/◌, ◌<◌, List, length, sym, ap, ◌∙◌, arith}
+use Rattle.std.specs.Slice.Iter.{chunks_exact_rest}
+use Rattle.siphash.specs.declared.State.{State}
+use Rattle.siphash.specs.SipHash.{compressed, run}
+use Rattle.siphash.proofs.Words.{one_more, none_left}
 use Rattle.siphash.proofs.absorb.Goals as goal
 
-pub loop-i-init : goal.loop-i-init
-loop-i-init c = run_none 2 c.args.start c.args.m.now
-
-pub loop-i-preserved : goal.loop-i-preserved
-loop-i-preserved c =
-    let m : List ℕ = c.args.m.now in
-    let i : ℕ = c.loop-i.i in
-    let e : 8 * i + 8 - 8 * i ≡ 8 = omega arith in
-    run_more 2 c.args.start c.loop-i.s c.compress-s.result m i c.word.result c.loop-i.invariant
-    (c.word.ensures ∙ ap (λ (k : ℕ). little (take k (drop (8 * i) m))) e) c.compress-s.ensures
+pub loop-block-preserved : goal.loop-block-preserved
+loop-block-preserved c =
+    let s = c.in-Some.ensures.steps in
+    let before = c.loop-block.invariant in
+    let left = chunks_exact_rest c.next.new.self in (
+      s.0 ∙ before.0,
+      ap (λ (v : State). run 2 v left (length left / 8)) (c.compress-s.ensures ∙ ap (λ w. compressed 2 w c.loop-block.s) c.word.ensures)
+          ∙ one_more 2 c.loop-block.s c.in-Some.block.now left (s.1.1 ∙ before.0)
+          ∙ ap (λ (q : List ℕ). run 2 c.loop-block.s q (length q / 8)) (sym s.1.0) ∙ before.1,
+    )
 
 pub returns : goal.returns
 returns c =
-    let e : c.loop-i.i ≡ length c.args.m.now / 8 = omega arith in
-    c.loop-i.invariant ∙ ap (run 2 c.args.start c.args.m.now) e
+    let s = c.in-None.ensures.steps in
+    let left = chunks_exact_rest c.loop-block.block-iterator in
+    let lt : length left < 8 = omega (arith, s.1.0, c.loop-block.invariant.0) in
+    none_left 2 c.loop-block.s left lt ∙ c.loop-block.invariant.1

@@ -1,10 +1,15 @@
-use Rattle.std.proofs.Common.{ℕ, get_or, sym, subst}
-use Rattle.sha256.specs.Constants.{primes, CubeRoot}
+use Rattle.std.proofs.Common.{◌≡◌, ℕ, Some, None, Option, Bor, get_or, sym, subst, arith}
+use Rattle.std.specs.Option.{option_copied}
+use Rattle.std.specs.Slice.{IsItemAt}
+use Rattle.sha256.specs.Constants.{Constant, constants, primes, CubeRoot}
 use Rattle.sha256.proofs.Cubes.{cube_rule}
 use Rattle.sha256.proofs.constants.constant.Goals as goal
 
-pub returns-then-t-lt64 : goal.returns-then-t-lt64
-returns-then-t-lt64 c =
-    let lt = c.if-t-lt64.true in
-    let is = c.round_constant.ensures in
-    (lt, is, subst (λ (k : ℕ). CubeRoot (get_or primes c.args.t 0) k) (sym is) (cube_rule c.args.t lt))
+answered : (t : ℕ) (r : Option (Bor ℕ)) (s : Option ℕ) → IsItemAt constants t r → s ≡ option_copied r → Constant t s
+answered t (Some x) s l e =
+    let is = l.4 (omega arith) 0 in
+    subst (Constant t) (sym e) (l.3.0, is, subst (λ (k : ℕ). CubeRoot (get_or primes t 0) k) (sym is) (cube_rule t l.3.0))
+answered t None s l e = subst (Constant t) (sym e) l.3
+
+pub returns : goal.returns
+returns c = answered c.args.t c.get.result c.copied.result c.get.ensures.lookup c.copied.ensures

@@ -1,4 +1,4 @@
-use Rattle.std.proofs.Common.{◌≡◌, ℕ, ◌-◌, List, length, ◌∙◌, arith}
+use Rattle.std.proofs.Common.{◌≡◌, ℕ, List, length, refl, ◌∙◌, arith}
 use Rattle.std.proofs.lemmas.List.{take_rest}
 use Rattle.sha256.proofs.Joined.{joined-short, joined-long}
 use Rattle.sha256.proofs.message.hash_joined.Goals as goal
@@ -16,5 +16,5 @@ returns-else-rest-room c =
     let bytes : List ℕ = c.join-else-rest-room.new.bytes in
     let lb : length bytes ≡ 64 = omega arith in
     c.hash_after.ensures
-    ∙ joined-long c.args.h tail rest bytes c.compress-s.result _ c.args.n room (room - 0) c.missing-room.ensures
-    c.if-rest-room.false lb (omega arith) c.join-else-rest-room.ensures c.compress-s.ensures (take_rest rest room)
+    ∙ joined-long c.args.h tail rest bytes c.compress-s.result _ c.args.n room room c.missing-room.ensures
+    c.if-rest-room.false lb refl c.join-else-rest-room.ensures c.compress-s.ensures (take_rest rest room)
