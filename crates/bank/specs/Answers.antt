@@ -8,14 +8,13 @@ use Rattle.fault.specs.Tables.{under, when}
 use Rattle.store.specs.Slot.{Slot, slot}
 use Rattle.store.specs.declared.record.Record.{Record}
 
--- What is shown of an item: at version 0 the digest is that of the empty value.
-abbrev pub shown : (List ℕ → List ℕ) → Slot → Slot
-shown digest s =
-    cond (s.version == 0) (record { version = s.version; value = s.value; digest = digest [] }) s
+-- what is shown of what a store holds: at version 0 the digest is the empty value's
+abbrev pub shown_slot : (List ℕ → List ℕ) → Slot → Slot
+shown_slot digest s = record { version = s.version; value = s.value; digest = cond (s.version == 0) (digest []) s.digest }
 
 -- The item call: an item is 0 to 63.
 abbrev pub item_answer : (List ℕ → List ℕ) → (ℕ → Slot) → ℕ → Result Slot Fault
-item_answer digest holds x = under (when (nat_lt 63 x) (fault Malformed Frame 1) ∷ []) (shown digest (holds x))
+item_answer digest holds x = under (when (nat_lt 63 x) (fault Malformed Frame 1) ∷ []) (shown_slot digest (holds x))
 
 -- what a record that was answered says
 abbrev pub said : Result Record Fault → Result Slot Fault

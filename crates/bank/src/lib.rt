@@ -2,4 +2,5 @@
 // Its calls answer what this state means; none changes it.
 #![tactic(auto)]
 
+pub mod items;
 pub mod state;

@@ -18,7 +18,7 @@ pub struct Bank<S: Store, D: Digest> {
 }
 
 // The count of commits and the chain, by which boards are compared.
-#[derive(Clone, Copy)]
+#[derive(Clone, Copy, PartialEq, Eq, Debug)]
 pub struct Mark {
     pub count: u32,
     pub chain: [u8; 32],

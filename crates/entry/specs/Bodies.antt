@@ -1,6 +1,8 @@
 -- What an entry says, and the bytes that are sealed and chained for it.
-use Rattle.std.specs.Prelude.{◌≡◌, ℕ, ◌<◌, ◌≤◌, Bool, true, false, List, [], ◌∷◌, ◌++◌, map, length, take, Some, None, Option, slice_index_or}
+use Rattle.std.specs.Prelude.{◌≡◌, ℕ, ◌<◌, ◌≤◌, List, [], ◌∷◌, ◌++◌, map, length, Some, None, Option, Ok, Err, Result, slice_index_or}
 use Rattle.std.specs.List.{flat_map}
+use Rattle.inline_vec.specs.Lists.{items}
+use Rattle.inline_vec.specs.declared.calls.Full.{Full}
 use Rattle.octets.specs.Numbers.{be}
 use Rattle.entry.specs.declared.parts.ItemDigest.{ItemDigest}
 use Rattle.entry.specs.declared.parts.Pair.{Pair}
@@ -49,18 +51,18 @@ abbrev pub item_body : ItemDigest → ItemBody
 item_body i = record { item = i.item; digest = i.digest }
 
 abbrev pub entry_body : Entry → EntryBody
-entry_body e = record { version = e.version; items = map item_body (take e.count e.items) }
+entry_body e = record { version = e.version; items = map item_body (items e.items) }
 
 abbrev pub pair_body : Pair → PairBody
 pair_body p = record { signer = p.signer; tag = p.tag }
 
 abbrev pub sealed_body : SealedEntry → SealedBody
-sealed_body s = record { entry = entry_body s.entry; pairs = map pair_body (take s.count s.pairs) }
+sealed_body s = record { entry = entry_body s.entry; pairs = map pair_body (items s.pairs) }
 
 -- One more behind the others, or, where there are as many as there is room for, all as it was.
-abbrev pub Pushed : {X B : Type 0} → (X → B) → ℕ → List B → List B → X → Bool → Type 0
-Pushed body room before after x true = (length before < room) × (after ≡ before ++ body x ∷ [])
-Pushed body room before after x false = (room ≤ length before) × (after ≡ before)
+abbrev pub Pushed : {X B : Type 0} → (X → B) → ℕ → List B → List B → X → Result (Unit {0}) Full → Type 0
+Pushed body room before after x (Ok done) = (length before < room) × (after ≡ before ++ body x ∷ [])
+Pushed body room before after x (Err full) = (room ≤ length before) × (after ≡ before)
 
 -- The one at a place, or none behind the last.
 abbrev pub Found : {X B : Type 0} → (X → B) → List B → ℕ → Option X → Type 0

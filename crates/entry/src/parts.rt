@@ -5,6 +5,8 @@ ghost use Rattle.octets.specs.Numbers.{limit};
 pub mod make;
 pub mod write;
 
+use inline_vec::InlineVec;
+
 // One write of an entry.
 #[derive(Clone, Copy)]
 pub struct ItemDigest {
@@ -21,23 +23,17 @@ pub struct Pair {
     ghost whole: { length tag ≡ 16 },
 }
 
-// The first `count` items count.
+// A version and up to eight writes.
 #[derive(Clone, Copy)]
 pub struct Entry {
     version: u32,
-    count: u8,
-    items: [ItemDigest; 8],
+    items: InlineVec<ItemDigest, 8>,
     ghost fits: { version ≤ limit 2 },
-    ghost few: { count ≤ 8 },
-    ghost room: { length items ≡ 8 },
 }
 
-// An entry with its shares; the first `count` pairs count.
+// An entry with up to six shares.
 #[derive(Clone, Copy)]
 pub struct SealedEntry {
     entry: Entry,
-    count: u8,
-    pairs: [Pair; 6],
-    ghost few: { count ≤ 6 },
-    ghost room: { length pairs ≡ 6 },
+    pairs: InlineVec<Pair, 6>,
 }

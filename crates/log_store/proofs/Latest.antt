@@ -1,7 +1,8 @@
 -- The latest records alone mean what all of them mean, and there is one for each item that has a record.
-use Rattle.std.proofs.Common.{◌≡◌, ℕ, zero, suc, ◌+◌, ◌<◌, ◌≤◌, Bool, true, false, cond, ◌||◌, eqb, List, [], ◌∷◌, ◌++◌, length, get_or, take, drop, set, sym, refl, ap, ◌∙◌, subst, arith}
+use Rattle.std.proofs.Common.{◌≡◌, ℕ, zero, suc, ◌+◌, ◌<◌, ◌≤◌, Bool, true, false, cond, not, ◌||◌, eqb, List, [], ◌∷◌, length, refl, ap, ◌∙◌, subst, arith}
 use Rattle.std.proofs.lemmas.Bool.{both_ways, eqb-true, eqb-false, ne_eqb}
-use Rattle.std.proofs.lemmas.List.{append_assoc, append-nil, at_drop_more, at_drop_all, take_more_set, drop-set-lt, length-take-le, length-set}
+use denote.Ref.{Bor}
+use Rattle.inline_vec.specs.Lists.{KeepsByRest, ToldOf}
 use Rattle.store.specs.Slot.{Slot, slot, blank}
 use Rattle.log_store.specs.Records.{item_of, has, last_or, latest, latest_only, counted, different_below, different, roomy}
 use Rattle.log_store.specs.declared.records.LogRecord.{LogRecord}
@@ -87,40 +88,15 @@ at_most (suc n) rs = go (has rs n) (at_most n rs)
 pub different-few : (rs : List LogRecord) → different rs ≤ 64
 different-few rs = at_most 64 rs
 
--- a loop that moves the latest records to the front: what stands there, and what the rest still gives
-pub record Moving (xs ys : List LogRecord) (w i : ℕ) : Type 0 where
-  pub behind : w ≤ i
-  pub long : length ys ≡ length xs
-  pub gives : take w ys ++ latest_only (drop i ys) ≡ latest_only xs
-
-tidied_at : (ys : List LogRecord) (i : ℕ) (x : LogRecord) → i < length ys → x ≡ get_or ys i x → latest_only (drop i ys) ≡ cond (has (drop (i + 1) ys) (item_of x)) (latest_only (drop (i + 1) ys)) (x ∷ latest_only (drop (i + 1) ys))
-tidied_at ys i x lt is = at_drop_more latest_only ys i x lt ∙ ap (λ (y : LogRecord). latest_only (y ∷ drop (i + 1) ys)) (sym is)
-
-module _ (xs ys : List LogRecord) (w i : ℕ) (x : LogRecord) (lt : i < length ys) (is : x ≡ get_or ys i x) (m : Moving xs ys w i) where
-  pub moving_drop : has (drop (i + 1) ys) (item_of x) ≡ true → Moving xs ys w (i + 1)
-  moving_drop e = record {
-    behind = let b = m.behind in omega arith;
-    long = m.long;
-    gives = ap (λ ls. take w ys ++ ls) (sym (tidied_at ys i x lt is ∙ ap (λ b. cond b (latest_only (drop (i + 1) ys)) (x ∷ latest_only (drop (i + 1) ys))) e)) ∙ m.gives;
-  }
-
-  pub moving_keep : has (drop (i + 1) ys) (item_of x) ≡ false → Moving xs (set ys w x) (w + 1) (i + 1)
-  moving_keep e =
-      let b = m.behind in
-      let wlt : w < length ys = omega arith in
-      let wi : w < i + 1 = omega arith in
-      record {
-        behind = omega arith;
-        long = length-set ys w x ∙ m.long;
-        gives = ap (λ ls. ls ++ latest_only (drop (i + 1) (set ys w x))) (take_more_set ys w x wlt)
-            ∙ ap (λ ls. (take w ys ++ x ∷ []) ++ latest_only ls) (drop-set-lt (i + 1) ys w x wi)
-            ∙ append_assoc (take w ys) (x ∷ []) (latest_only (drop (i + 1) ys))
-            ∙ ap (λ ls. take w ys ++ ls) (sym (tidied_at ys i x lt is ∙ ap (λ b. cond b (latest_only (drop (i + 1) ys)) (x ∷ latest_only (drop (i + 1) ys))) e))
-            ∙ m.gives;
-      }
-
-pub moving_all : (xs ys : List LogRecord) (w i : ℕ) → length ys ≤ i → i ≤ length ys → Moving xs ys w i → (take w ys ≡ latest_only xs) × (w ≡ different xs)
-moving_all xs ys w i le ge m =
-    let b = m.behind in
-    let kept : take w ys ≡ latest_only xs = sym (append-nil (take w ys)) ∙ ap (λ ls. take w ys ++ ls) (sym (at_drop_all latest_only ys i le)) ∙ m.gives in
-    (kept, sym (length-take-le w ys (omega arith)) ∙ ap length kept ∙ length-latest xs)
+-- keeping the records that no later one of their item follows leaves the latest alone
+pub kept_latest : (says : Bor LogRecord → Bor (List LogRecord) → Bool → Type 0)
+    → ((p : Bor LogRecord) (q : Bor (List LogRecord)) (b : Bool) → says p q b → b ≡ not (has q.now (item_of p.now)))
+    → (xs ys : List LogRecord) → KeepsByRest (ToldOf says) xs ys → ys ≡ latest_only xs
+kept_latest says test [] ys e = e
+kept_latest says test (x ∷ xs) ys (b, (p, value, (q, behind, told)), (zs, rest, e)) =
+    let is : b ≡ not (has xs (item_of x)) = test p q b told ∙ ap (λ (ls : List LogRecord). not (has ls (item_of p.now))) behind ∙ ap (λ (r : LogRecord). not (has xs (item_of r))) value in
+    e ∙ go (has xs (item_of x)) b is (kept_latest says test xs zs rest)
+  where
+    go : (h c : Bool) → c ≡ not h → zs ≡ latest_only xs → cond c (x ∷ zs) zs ≡ cond h (latest_only xs) (x ∷ latest_only xs)
+    go true c n k = ap (λ d. cond d (x ∷ zs) zs) n ∙ k
+    go false c n k = ap (λ d. cond d (x ∷ zs) zs) n ∙ ap (λ (ls : List LogRecord). x ∷ ls) k

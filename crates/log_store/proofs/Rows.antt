@@ -1,7 +1,10 @@
 -- What a row of records means, one record at a time.
-use Rattle.std.proofs.Common.{◌≡◌, ℕ, ◌+◌, ◌-◌, ◌<◌, true, false, cond, ◌||◌, eqb, List, [], ◌∷◌, ◌++◌, length, get_or, take, drop, sym, refl, ap, ◌∙◌, subst, arith}
+use Rattle.std.proofs.Common.{◌≡◌, ℕ, Bool, true, false, cond, ◌||◌, eqb, List, [], ◌∷◌, ◌++◌, find, reverse, Some, None, Option, sym, refl, ap, ◌∙◌}
+use Rattle.std.specs.List.{list_any}
+use Rattle.std.specs.Option.{option_or}
+use Rattle.std.proofs.lemmas.List.{reverse-append}
+use Rattle.std.proofs.lemmas.List.Folds.{find-append}
 use Rattle.std.proofs.lemmas.Bool.{eq-eqb, ne_eqb, or_parts}
-use Rattle.std.proofs.lemmas.List.{at_drop_more, take-append-drop}
 use Rattle.store.specs.Slot.{Slot, slot, blank}
 use Rattle.log_store.specs.Records.{item_of, has, last_or, latest}
 use Rattle.log_store.specs.declared.records.LogRecord.{LogRecord}
@@ -16,37 +19,39 @@ pub last_split : (s : Slot) (before after : List LogRecord) (r : LogRecord) → 
 last_split s [] after r e = ap (λ b. last_or (cond b (slot r.row) s) after (item_of r)) (eq-eqb (item_of r) (item_of r) refl) ∙ last_none (slot r.row) after (item_of r) e
 last_split s (q ∷ before) after r e = last_split (cond (eqb (item_of q) (item_of r)) (slot q.row) s) before after r e
 
-module _ (rs : List LogRecord) (i : ℕ) (r : LogRecord) (x : ℕ) (lt : i < length rs) (is : r ≡ get_or rs i r) where
-  has_at : has (drop i rs) x ≡ (eqb (item_of r) x || has (drop (i + 1) rs) x)
-  has_at = at_drop_more (λ (ls : List LogRecord). has ls x) rs i r lt ∙ ap (λ (y : LogRecord). has (y ∷ drop (i + 1) rs) x) (sym is)
+-- one of the records is the item's
+pub any-has : (rs : List LogRecord) (x : ℕ) → list_any (λ r. eqb (item_of r) x) rs ≡ has rs x
+any-has [] x = refl
+any-has (r ∷ rs) x = ap (λ b. eqb (item_of r) x || b) (any-has rs x)
 
-  pub has_here : item_of r ≡ x → has (drop i rs) x ≡ true
-  has_here e = has_at ∙ ap (λ b. b || has (drop (i + 1) rs) x) (eq-eqb _ _ e)
+-- what the first record of the item from the end says, or s where there is none
+pub told_by : Slot → Option LogRecord → Slot
+told_by s (Some r) = slot r.row
+told_by s None = s
 
-  pub has_past : (item_of r ≡ x → ⊥) → has (drop i rs) x ≡ has (drop (i + 1) rs) x
-  has_past ne = has_at ∙ ap (λ b. b || has (drop (i + 1) rs) x) (ne_eqb _ _ ne)
+told_last : (s : Slot) (r : LogRecord) (b : Bool) (found : Option LogRecord) → told_by s (option_or found (cond b (Some r) None)) ≡ told_by (cond b (slot r.row) s) found
+unfolding told_by
+told_last s r true (Some q) = refl
+told_last s r false (Some q) = refl
+told_last s r true None = refl
+told_last s r false None = refl
 
-  -- a record that no later one of its item follows counts
-  pub latest_here : item_of r ≡ x → has (drop (i + 1) rs) x ≡ false → latest rs x ≡ slot r.row
-  latest_here e none =
-      let whole : rs ≡ take i rs ++ r ∷ drop (i + 1) rs =
-      sym (take-append-drop i rs) ∙ ap (λ (ls : List LogRecord). take i rs ++ ls) (at_drop_more (λ (ls : List LogRecord). ls) rs i r lt ∙ ap (λ (y : LogRecord). y ∷ drop (i + 1) rs) (sym is)) in
-      ap (λ (ls : List LogRecord). latest ls x) whole ∙ subst (λ (y : ℕ). latest (take i rs ++ r ∷ drop (i + 1) rs) y ≡ slot r.row) e
-      (last_split blank (take i rs) (drop (i + 1) rs) r (subst (λ (y : ℕ). has (drop (i + 1) rs) y ≡ false) (sym e) none))
+last-found : (s : Slot) (rs : List LogRecord) (x : ℕ) → told_by s (find (λ r. eqb (item_of r) x) (reverse rs)) ≡ last_or s rs x
+unfolding told_by
+last-found s [] x = refl
+last-found s (r ∷ rs) x =
+    ap (λ (ls : List LogRecord). told_by s (find (λ q. eqb (item_of q) x) ls)) (reverse-append (r ∷ []) rs)
+    ∙ ap (told_by s) (find-append (λ q. eqb (item_of q) x) (reverse rs) (r ∷ []))
+    ∙ told_last s r (eqb (item_of r) x) (find (λ q. eqb (item_of q) x) (reverse rs))
+    ∙ last-found (cond (eqb (item_of r) x) (slot r.row) s) rs x
 
--- the same at the record before place i, for a walk from the end
-module _ (rs : List LogRecord) (i : ℕ) (r : LogRecord) (x : ℕ) (some : 0 < i) (lt : i - 1 < length rs) (is : r ≡ get_or rs (i - 1) r) (none : has (drop i rs) x ≡ false) where
-  step : i ≡ (i - 1) + 1
-  step = omega arith
+pub latest_some : (rs : List LogRecord) (x : ℕ) (r : LogRecord) → find (λ q. eqb (item_of q) x) (reverse rs) ≡ Some r → slot r.row ≡ latest rs x
+unfolding told_by
+latest_some rs x r e = sym (ap (told_by blank) e) ∙ last-found blank rs x
 
-  behind : has (drop ((i - 1) + 1) rs) x ≡ false
-  behind = subst (λ (k : ℕ). has (drop k rs) x ≡ false) step none
-
-  pub none_before : (item_of r ≡ x → ⊥) → has (drop (i - 1) rs) x ≡ false
-  none_before ne = has_past rs (i - 1) r x lt is ne ∙ behind
-
-  pub latest-before : item_of r ≡ x → latest rs x ≡ slot r.row
-  latest-before e = latest_here rs (i - 1) r x lt is e behind
+pub latest_none : (rs : List LogRecord) (x : ℕ) → find (λ q. eqb (item_of q) x) (reverse rs) ≡ None → blank ≡ latest rs x
+unfolding told_by
+latest_none rs x e = sym (ap (told_by blank) e) ∙ last-found blank rs x
 
 -- one record more
 pub last_push : (s : Slot) (rs : List LogRecord) (r : LogRecord) (x : ℕ) → last_or s (rs ++ r ∷ []) x ≡ cond (eqb (item_of r) x) (slot r.row) (last_or s rs x)

@@ -6,6 +6,7 @@ ghost use Rattle.store.specs.Slot.{blank, slot};
 
 use crate::records::{LogRecord, newest};
 use crate::{Log, LogMemory};
+use inline_vec::InlineVec;
 use store::Store;
 use store::item::Item;
 use store::record::Record;
@@ -19,12 +20,13 @@ impl<const N: usize> Store for Log<N> {
         ensures { (((k : ℕ) → k < 64 → logged result k ≡ blank)) × (in_use result ≡ []) }
     {
         let LogMemory { records } = memory;
-        Log { records, used: 0 }
+        Log {
+            records: InlineVec::over(records),
+        }
     }
 
     fn look_up(&self, item: Item) -> Record {
-        let records = &self.records[..];
-        newest(&records[0..self.used], item)
+        newest(self.records.as_slice(), item)
     }
 
     fn install(&mut self, item: Item, row: Record)
@@ -33,7 +35,6 @@ impl<const N: usize> Store for Log<N> {
         ensures records { in_use self.new ≡ installed N (in_use self.old) (recorded item row) }
     {
         self.make_room();
-        self.records[self.used] = LogRecord { item, row };
-        self.used += 1;
+        let _ = self.records.push(LogRecord { item, row });
     }
 }

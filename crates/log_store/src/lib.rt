@@ -11,6 +11,7 @@ pub mod records;
 mod tidying;
 pub mod worked;
 
+use inline_vec::InlineVec;
 use records::LogRecord;
 
 // Memory that was found large enough: 64 items and one record more.
@@ -21,12 +22,8 @@ pub struct LogMemory<const N: usize> {
     ghost room: { 65 ≤ N },
 }
 
-// The first `used` records count, whatever the others hold.
 #[derive(Drop)]
 pub struct Log<const N: usize> {
-    records: [LogRecord; N],
-    used: usize,
-    ghost whole: { length records ≡ N },
+    records: InlineVec<LogRecord, N>,
     ghost room: { 65 ≤ N },
-    ghost within: { used ≤ N },
 }

@@ -15,11 +15,7 @@ impl<const N: usize> LogMemory<N> {
         ensures { elim result [ Ok m ↦ (65 ≤ N) × (m.records ≡ records.entry) | Err e ↦ (N < 65) × (e ≡ fault NoRoom Board 0) ] }
     {
         if N < 65 {
-            return Err(Fault {
-                cause: Cause::NoRoom,
-                layer: Layer::Board,
-                place: 0,
-            });
+            return Err(Cause::NoRoom.at(Layer::Board, 0));
         }
         Ok(LogMemory { records })
     }
@@ -30,6 +26,6 @@ impl<const N: usize> Log<N> {
     pub fn len(&self) -> usize
         ensures { (result ≡ length (in_use self.now)) × (result ≤ N) }
     {
-        self.used
+        self.records.len()
     }
 }

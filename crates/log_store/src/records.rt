@@ -7,7 +7,7 @@ use store::item::Item;
 use store::record::Record;
 
 // What was installed, and for which item.
-#[derive(Clone, Copy)]
+#[derive(Clone, Copy, PartialEq, Eq, Debug)]
 pub struct LogRecord {
     pub item: Item,
     pub row: Record,
@@ -17,23 +17,15 @@ pub struct LogRecord {
 pub(crate) fn newest(records: &[LogRecord], item: Item) -> Record
     ensures { slot result ≡ latest records.now item.number }
 {
-    for i in (0..records.len()).rev() {
-        let found = records[i];
-        if found.item.number() == item.number() {
-            return found.row;
-        }
+    match records.iter().rev().find(|record| record.item == item) {
+        Some(record) => record.row,
+        None => Record::blank(),
     }
-    Record::blank()
 }
 
 // Whether one of the records is the item's.
 pub(crate) fn written(records: &[LogRecord], item: Item) -> bool
     ensures { result ≡ has records.now item.number }
 {
-    for r in records {
-        if r.item.number() == item.number() {
-            return true;
-        }
-    }
-    false
+    records.iter().any(|record| record.item == item)
 }

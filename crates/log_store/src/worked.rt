@@ -22,7 +22,7 @@ pub fn filled(memory: LogMemory<65>) -> Log<65>
 {
     let mut log = Log::<65>::new(memory);
     for number in 0..65u8 {
-        if let Some(item) = Item::new(number % 64) {
+        if let Ok(item) = Item::try_from(number % 64) {
             log.install(item, Record::blank());
         }
     }

@@ -1,9 +1,10 @@
 -- One client's numbers among those of all.
-use Rattle.std.proofs.Common.{◌≡◌, ℕ, ◌<◌, List, [], ◌∷◌, ◌++◌, length, set, Some, None, Option, sym, ap, ◌∙◌, subst, inl, inr}
+use Rattle.std.proofs.Common.{◌≡◌, ℕ, ◌<◌, List, [], ◌∷◌, ◌++◌, length, set, Option, Ok, Err, Result, sym, ap, ◌∙◌, subst, inl, inr}
 use Rattle.std.proofs.lemmas.List.{get_or-set_same, get_or-set_other, set-get_or}
 use Rattle.std.proofs.lemmas.Bool.{cases_eq}
 use Rattle.numbers.specs.Clients.{TracksAll, UsedMore, UsesUpOf, no_numbers, numbers_of}
 use Rattle.numbers.specs.Tracking.{Tracks, Untouched, UsesUp}
+use Rattle.numbers.specs.declared.client.NotOpen.{NotOpen}
 use Rattle.numbers.specs.declared.client.Numbers.{Numbers}
 use Rattle.numbers.specs.declared.clients.Clients.{Clients}
 
@@ -18,9 +19,9 @@ module _ (c : Clients) (client : ℕ) (n : Numbers) where
   same e = let put : List Numbers → Clients = λ xs. record { numbers = xs } in
       ap put (ap (set c.numbers client) e ∙ set-get_or c.numbers client no_numbers)
 
-  pub all_untouched : (r : Option ℕ) → Untouched (numbers_of c client) n r → Untouched c (replaced c client n) r
-  all_untouched (Some opened) u = tt
-  all_untouched None e = same e
+  pub all_untouched : (r : Result (Option ℕ) NotOpen) → Untouched (numbers_of c client) n r → Untouched c (replaced c client n) r
+  all_untouched (Ok opened) u = tt
+  all_untouched (Err none) e = same e
 
   module _ (w s : ℕ) (below : client < 16) (there : client < length c.numbers) (used : ℕ → List ℕ) (tr : TracksAll w c used) where
     all_more : Tracks w n (used client ++ s ∷ []) → (more : ℕ → List ℕ) → UsedMore used client s more → TracksAll w (replaced c client n) more
@@ -34,6 +35,6 @@ module _ (c : Clients) (client : ℕ) (n : Numbers) where
           subst (Tracks w (numbers_of (replaced c client n) k)) (sym (rest k ne)) (subst (λ m. Tracks w m (used k)) v (tr k lt))
     ]
 
-    pub all_uses : (r : Option ℕ) → UsesUp w (numbers_of c client) n (used client) s r → UsesUpOf w c (replaced c client n) used client s r
-    all_uses (Some opened) (op, is, one) = (below, op, is, all_more one)
-    all_uses None (closed, e) = (λ _. closed, same e)
+    pub all_uses : (r : Result (Option ℕ) NotOpen) → UsesUp w (numbers_of c client) n (used client) s r → UsesUpOf w c (replaced c client n) used client s r
+    all_uses (Ok opened) (op, is, one) = (below, op, is, all_more one)
+    all_uses (Err none) (closed, e) = (λ _. closed, same e)

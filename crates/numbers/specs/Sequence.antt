@@ -1,5 +1,5 @@
 -- Which sequence numbers a client may use. `used` lists the numbers that got a verdict, oldest first; w is the width of a number in bytes.
-use Rattle.std.specs.Prelude.{◌≡◌, ℕ, ◌+◌, ◌≤◌, min, cond, ◌⊎◌, List, [], ◌∷◌, ◌++◌, length, ◌≢◌, nat_le}
+use Rattle.std.specs.Prelude.{◌≡◌, ℕ, ◌+◌, ◌≤◌, min, cond, ◌⊎◌, List, [], ◌∷◌, ◌++◌, length, Some, None, Option, ◌≢◌, nat_le}
 use Rattle.std.specs.List.{ContainsAt as Has}
 use Rattle.octets.specs.Numbers.{limit}
 
@@ -11,9 +11,9 @@ EverOpened w used s = (1 ≤ s) × (s ≤ min (4 + length used) (limit w))
 abbrev pub Open : ℕ → List ℕ → ℕ → Type 0
 Open w used s = EverOpened w used s × (Has used s → ⊥)
 
--- the number that the next verdict opens, the lowest never opened; 0 where all are
-abbrev pub opens : ℕ → List ℕ → ℕ
-opens w used = cond (nat_le (5 + length used) (limit w)) (5 + length used) 0
+-- the number that the next verdict opens, the lowest never opened; none where all are
+abbrev pub opens : ℕ → List ℕ → Option ℕ
+opens w used = cond (nat_le (5 + length used) (limit w)) (Some (5 + length used)) None
 
 -- Only numbers that were opened were used.
 abbrev pub Rightly : ℕ → List ℕ → Type 0
@@ -22,5 +22,5 @@ Rightly w used = (s : ℕ) → Has used s → EverOpened w used s
 -- The same rule, verdict by verdict: a verdict closes the number that it used and opens one more.
 abbrev pub Steps : ℕ → List ℕ → ℕ → Type 0
 Steps w used s = (t : ℕ)
-    → (Open w (used ++ s ∷ []) t → (Open w used t × (t ≢ s)) ⊎ ((t ≡ opens w used) × (1 ≤ t)))
-    × ((Open w used t × (t ≢ s)) ⊎ ((t ≡ opens w used) × (1 ≤ t)) → Open w (used ++ s ∷ []) t)
+    → (Open w (used ++ s ∷ []) t → (Open w used t × (t ≢ s)) ⊎ (opens w used ≡ Some t))
+    × ((Open w used t × (t ≢ s)) ⊎ (opens w used ≡ Some t) → Open w (used ++ s ∷ []) t)

@@ -4,7 +4,7 @@ ghost use Rattle.numbers.specs.Sequence.{Open};
 ghost use Rattle.numbers.specs.Tracking.{Untouched};
 ghost use Rattle.numbers.specs.Clients.{TracksAll, UsesUpOf, numbers_of};
 
-use crate::client::Numbers;
+use crate::client::{NotOpen, Numbers};
 
 // How many clients there are.
 pub const CLIENTS: usize = 16;
@@ -27,19 +27,20 @@ impl Clients {
     pub fn is_open(&self, client: u8, s: u32) -> bool
         ensures { (used : ℕ → List ℕ) → TracksAll 2 self.now used → Decides result ((client < 16) × Open 2 (used client) s) }
     {
-        let client = client as usize;
-        client < CLIENTS && self.numbers[client].is_open(s)
+        let numbers = self.numbers.get(usize::from(client));
+        numbers.is_some_and(|numbers| numbers.is_open(s))
     }
 
-    // Uses up an open number of a client and answers the one that is opened, 0 for none; None, and nothing changed, where it is not open.
-    pub fn use_up(&mut self, client: u8, s: u32) -> Option<u32>
+    // Uses up an open number of a client and answers the one that is opened, if one is left; an error, and nothing changed, where it is not open.
+    pub fn use_up(&mut self, client: u8, s: u32) -> Result<Option<u32>, NotOpen>
         ensures used { (used : ℕ → List ℕ) → TracksAll 2 self.old used → UsesUpOf 2 self.old self.new used client s result }
         ensures kept { Untouched self.old self.new result }
         ensures others { (k : ℕ) → (k ≢ client) → numbers_of self.new k ≡ numbers_of self.old k }
     {
+        // Indexed, since `get_mut` says nothing of the other clients' numbers.
         let client = client as usize;
         if client >= CLIENTS {
-            return None;
+            return Err(NotOpen);
         }
         let numbers = &mut self.numbers[client];
         numbers.use_up(s)

@@ -20,6 +20,6 @@ pub fn second_used() -> Numbers
     ensures rule { (t : ℕ) → (Open 2 (2 ∷ []) t → (t ≡ 1) ⊎ ((t ≡ 3) ⊎ ((t ≡ 4) ⊎ (t ≡ 5)))) × ((t ≡ 1) ⊎ ((t ≡ 3) ⊎ ((t ≡ 4) ⊎ (t ≡ 5))) → Open 2 (2 ∷ []) t) }
 {
     let mut numbers = Numbers::new();
-    let _opened = numbers.use_up(2);
+    let _ = numbers.use_up(2);
     numbers
 }

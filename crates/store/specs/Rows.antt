@@ -7,7 +7,7 @@ use Rattle.store.specs.declared.table.Table.{Table}
 
 -- stands where a list of rows has no row
 abbrev pub no_row : Record
-no_row = record { version = 0; value = record { len = 0; bytes = replicate 32 0; fits = zero-le; whole = refl }; digest = replicate 32 0; whole = refl }
+no_row = record { version = 0; value = record { bytes = record { places = replicate 32 0; len = 0; within = zero-le; whole = refl } }; digest = replicate 32 0; whole = refl }
 
 -- an item's slot is what its row says
 abbrev pub rows : Table → ℕ → Slot

@@ -1,11 +1,12 @@
 -- What a store means for one item.
-use Rattle.std.specs.Prelude.{ℕ, List, [], take, replicate}
+use Rattle.std.specs.Prelude.{ℕ, List, [], replicate}
+use Rattle.inline_vec.specs.Lists.{items}
 use Rattle.store.specs.declared.record.Record.{Record}
 use Rattle.store.specs.declared.value.Value.{Value}
 
 -- the bytes of a value
 abbrev pub value_of : Value → List ℕ
-value_of v = take v.len v.bytes
+value_of v = items v.bytes
 
 -- what is held for an item: a version, the bytes of a value, the bytes of a digest
 pub record Slot : Type 0 where

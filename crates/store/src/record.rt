@@ -5,7 +5,7 @@ use crate::value::Value;
 
 pub mod made;
 
-#[derive(Clone, Copy)]
+#[derive(Clone, Copy, PartialEq, Eq, Debug)]
 pub struct Record {
     pub version: u32,
     pub value: Value,

@@ -1,13 +1,9 @@
 // The value of an item: 0 to 32 bytes, in memory of a fixed size.
-ghost use Rattle.std.specs.Prelude.{◌≡◌, ◌≤◌, length};
+use inline_vec::InlineVec;
 
 pub mod bytes;
 
-// The bytes behind the first `len` mean nothing.
-#[derive(Clone, Copy)]
+#[derive(Clone, Copy, PartialEq, Eq, Debug)]
 pub struct Value {
-    len: u8,
-    bytes: [u8; 32],
-    ghost fits: { len ≤ 32 },
-    ghost whole: { length bytes ≡ 32 },
+    bytes: InlineVec<u8, 32>,
 }

@@ -3,27 +3,25 @@
 
 #[cfg(test)]
 mod tests {
-    use fault::{Cause, Fault, Layer};
+    use fault::{Cause, Layer};
     use log_store::records::LogRecord;
     use log_store::worked::filled;
     use log_store::{Log, LogMemory};
     use std::process::Abort;
     use std::test::Fail;
     use store::Store;
-    use store::item::Item;
+    use store::item::{Item, NoItem};
     use store::record::Record;
     use store::table::Table;
     use store::value::Value;
+    use store::value::bytes::TooLong;
 
     // A record that another seed makes another one of.
     fn sample(seed: u32) -> Record {
         let byte = (seed % 251) as u8;
         let bytes = [byte; 32];
         let len = (seed % 33) as usize;
-        let value = match Value::new(&bytes[0..len]) {
-            Some(value) => value,
-            None => Value::empty(),
-        };
+        let value = Value::try_from(&bytes[0..len]).unwrap_or(Value::empty());
         Record {
             version: seed,
             value,
@@ -31,30 +29,15 @@ mod tests {
         }
     }
 
-    // Whether two records say the same.
-    fn same(a: &Record, b: &Record) -> bool {
-        a.version == b.version
-            && a.value.as_slice() == b.value.as_slice()
-            && a.digest.as_slice() == b.digest.as_slice()
-    }
-
     // Whether two stores answer alike for every item.
     fn agree<A: Store, B: Store>(a: &A, b: &B) -> bool {
-        for number in 0..64u8 {
-            if let Some(item) = Item::new(number) {
-                if !same(&a.look_up(item), &b.look_up(item)) {
-                    return false;
-                }
-            }
-        }
-        true
+        (0..64u8)
+            .filter_map(Item::new)
+            .all(|item| a.look_up(item) == b.look_up(item))
     }
 
     fn item(number: u8) -> Result<Item, Fail> {
-        match Item::new(number) {
-            Some(item) => Ok(item),
-            None => Err(Fail::new("no such item")),
-        }
+        Item::try_from(number).map_err(|_| Fail::new("no such item"))
     }
 
     // A record of memory that was used before.
@@ -66,26 +49,22 @@ mod tests {
         })
     }
 
+    // Each loop runs over the numbers that items have, since a number also makes its item's sample.
     fn keeps_every_item<S: Store + Drop>(rt: &impl Abort, memory: S::Memory) -> Result<(), Fail> {
         let mut store = S::new(memory);
         for number in 0..64u8 {
-            assert!(rt; same(&store.look_up(item(number)?), &Record::blank()));
+            assert_eq!(rt; store.look_up(item(number)?), Record::blank());
         }
         for number in 0..64u8 {
             store.install(item(number)?, sample(u32::from(number) + 1));
         }
         for number in 0..64u8 {
-            assert!(rt;
-                same(
-                    &store.look_up(item(number)?),
-                    &sample(u32::from(number) + 1),
-                )
-            );
+            assert_eq!(rt; store.look_up(item(number)?), sample(u32::from(number) + 1));
         }
         Ok(())
     }
 
-    // First few items often, then all of them in a mixed order.
+    // First few items often, then all of them in a mixed order; a turn's number picks the item and makes the sample.
     fn follows_table<S: Store + Drop>(rt: &impl Abort, memory: S::Memory) -> Result<(), Fail> {
         let mut table = Table::new(());
         let mut store = S::new(memory);
@@ -103,19 +82,19 @@ mod tests {
     fn items_end_at_63(rt: HostRuntime) -> Result<(), Fail> {
         assert_eq!(rt; item(63)?.number(), 63);
         assert!(rt; Item::new(64).is_none());
+        assert_eq!(rt; Item::try_from(64u8), Err(NoItem));
         Ok(())
     }
 
     #[test]
     fn values_end_at_32_bytes(rt: HostRuntime) -> Result<(), Fail> {
         let bytes = [7; 33];
-        let Some(value) = Value::new(&bytes[0..32]) else {
-            return Err(Fail::new("32 bytes are a value"));
-        };
+        let value = Value::new(&bytes[0..32]).ok_or("32 bytes are a value")?;
         assert_eq!(rt; value.len(), 32);
         assert!(rt; value.as_slice() == &bytes[0..32]);
         assert_eq!(rt; Value::empty().len(), 0);
         assert!(rt; Value::new(&bytes[0..33]).is_none());
+        assert_eq!(rt; Value::try_from(&bytes[0..33]), Err(TooLong));
         Ok(())
     }
 
@@ -138,20 +117,9 @@ mod tests {
 
     #[test]
     fn memory_of_64_is_refused(rt: HostRuntime) -> Result<(), Fail> {
-        match LogMemory::new([used()?; 64]) {
-            Ok(_) => Err(Fail::new("64 records are too few")),
-            Err(refused) => {
-                assert_eq!(rt;
-                    refused,
-                    Fault {
-                        cause: Cause::NoRoom,
-                        layer: Layer::Board,
-                        place: 0,
-                    }
-                );
-                Ok(())
-            },
-        }
+        let refused = LogMemory::new([used()?; 64]).err();
+        assert_eq!(rt; refused, Some(Cause::NoRoom.at(Layer::Board, 0)));
+        Ok(())
     }
 
     #[test]
@@ -160,7 +128,7 @@ mod tests {
         assert_eq!(rt; log.len(), 65);
         log.install(item(0)?, sample(1));
         assert_eq!(rt; log.len(), 65);
-        assert!(rt; same(&log.look_up(item(0)?), &sample(1)));
+        assert_eq!(rt; log.look_up(item(0)?), sample(1));
         Ok(())
     }
 
@@ -173,8 +141,8 @@ mod tests {
         assert_eq!(rt; log.len(), 70);
         log.install(item(4)?, sample(99));
         assert_eq!(rt; log.len(), 2);
-        assert!(rt; same(&log.look_up(item(3)?), &sample(69)));
-        assert!(rt; same(&log.look_up(item(4)?), &sample(99)));
+        assert_eq!(rt; log.look_up(item(3)?), sample(69));
+        assert_eq!(rt; log.look_up(item(4)?), sample(99));
         Ok(())
     }
 }

@@ -12,11 +12,13 @@ abbrev pub no_slot : Slot
 no_slot = record {
   entry = record {
     version = 0;
-    count = 0;
-    items = replicate 8 (record { item = 0; digest = replicate 32 0; whole = refl });
+    items = record {
+      places = replicate 8 (record { item = 0; digest = replicate 32 0; whole = refl });
+      len = 0;
+      within = zero-le;
+      whole = refl;
+    };
     fits = zero-le;
-    few = zero-le;
-    room = refl;
   };
   tags = replicate 16 None;
   whole = refl;

@@ -12,7 +12,21 @@ pub struct Window {
     slots: [Slot; 32],
 }
 
+// Where the entry of a version stands: 32 versions apart share a place.
+fn place(version: u32) -> usize
+    ensures { result ≡ version % 32 }
+{
+    version as usize % 32
+}
+
 impl Window {
+    // What stands in the place of a version.
+    fn slot(&self, version: u32) -> &Slot
+        ensures { result.now ≡ slot_in self.now version }
+    {
+        &self.slots[place(version)]
+    }
+
     // No entry is kept: every place has version 0, no writes and no shares.
     pub fn new() -> Window
         ensures entries { (v : ℕ) → entry_in result v ≡ record { version = 0; items = [] } }
@@ -29,28 +43,27 @@ impl Window {
     pub fn keep(&mut self, entry: Entry)
         ensures { Kept self.old self.new entry }
     {
-        let at = entry.version() as usize % 32;
-        self.slots[at] = Slot::new(entry);
+        self.slots[place(entry.version())] = Slot::new(entry);
     }
 
     pub fn entry(&self, version: u32) -> Entry
         ensures { (result ≡ (slot_in self.now version).entry) × (entry_body result ≡ entry_in self.now version) }
     {
-        self.slots[version as usize % 32].entry
+        self.slot(version).entry
     }
 
     // Whether a signer's share is there.
     pub fn has(&self, version: u32, signer: u8) -> bool
         ensures { result ≡ is_some (tag_in self.now version signer) }
     {
-        self.slots[version as usize % 32].tag(signer).is_some()
+        self.slot(version).tag(signer).is_some()
     }
 
     // The tag of a signer's share, if it is there.
     pub fn tag(&self, version: u32, signer: u8) -> Option<[u8; 16]>
         ensures { result ≡ tag_in self.now version signer }
     {
-        self.slots[version as usize % 32].tag(signer)
+        self.slot(version).tag(signer)
     }
 
     // How many shares there are.
@@ -59,14 +72,14 @@ impl Window {
         ensures pairs { result ≡ length (pairs_in self.now version) }
         ensures few { result ≤ 16 }
     {
-        self.slots[version as usize % 32].shares()
+        self.slot(version).shares()
     }
 
     // Adds a share to its entry and answers how many the entry now has. No other entry changes.
     pub fn add(&mut self, version: u32, pair: Pair) -> u8
         ensures { Added self.old self.new version pair.signer pair.tag result }
     {
-        let slot = &mut self.slots[version as usize % 32];
+        let slot = &mut self.slots[place(version)];
         slot.add(pair);
         slot.shares()
     }
@@ -77,6 +90,6 @@ impl Window {
         ensures all { shares_in self.now version ≤ 6 → (sealed_body result).pairs ≡ pairs_in self.now version }
         ensures rise { Rise (pairs_in self.now version) }
     {
-        self.slots[version as usize % 32].sealed()
+        self.slot(version).sealed()
     }
 }

@@ -8,19 +8,14 @@ mod tests {
 
     fn filled(last: u32) -> Window {
         let mut window = Window::new();
-        for v in 1..=last.min(100) {
-            if let Some(entry) = Entry::new(v) {
-                window.keep(entry);
-            }
+        for entry in (1..=last).filter_map(Entry::new) {
+            window.keep(entry);
         }
         window
     }
 
-    fn signer_at(sealed: &SealedEntry, i: u8) -> u8 {
-        match sealed.pair(i) {
-            Some(pair) => pair.signer,
-            None => 255,
-        }
+    fn signer_at(sealed: &SealedEntry, i: u8) -> Option<u8> {
+        sealed.pair(i).map(|pair| pair.signer)
     }
 
     #[test]
@@ -42,8 +37,8 @@ mod tests {
         assert!(rt; !window.has(2, 1));
         let sealed = window.sealed(2);
         assert!(rt; sealed.len() == 2);
-        assert!(rt; signer_at(&sealed, 0) == 0);
-        assert!(rt; signer_at(&sealed, 1) == 7);
-        assert!(rt; signer_at(&sealed, 2) == 255);
+        assert!(rt; signer_at(&sealed, 0) == Some(0));
+        assert!(rt; signer_at(&sealed, 1) == Some(7));
+        assert!(rt; signer_at(&sealed, 2).is_none());
     }
 }

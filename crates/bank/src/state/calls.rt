@@ -1,22 +1,15 @@
 // The calls on a bank.
 ghost use Rattle.std.specs.Prelude.{◌≡◌, ℕ, ◌<◌, [], length, replicate};
 ghost use Rattle.bank.specs.Answers.{empty_proof, filled, item_answer, proof_answer, said, share_refusal};
-ghost use Rattle.digest.specs.Meaning.{written};
+ghost use Rattle.digest.specs.Meaning.{bytes_by};
 ghost use Rattle.store.specs.Slot.{blank};
 
 use super::{Bank, Mark};
+use crate::items::look_up;
 use digest::Digest;
 use fault::{Cause, Fault, Layer};
 use store::Store;
-use store::item::Item;
 use store::record::Record;
-
-// The place of a plain argument is its offset in a line: behind the kind.
-const ITEM_RANGE: Fault = Fault {
-    cause: Cause::Malformed,
-    layer: Layer::Frame,
-    place: 1,
-};
 
 // The empty proof: kind 04, low 1, high 0.
 const EMPTY_PROOF: [u8; 5] = [4, 0, 1, 0, 0];
@@ -37,21 +30,9 @@ impl<S: Store, D: Digest> Bank<S, D> {
 
     // Version, value and digest of an item; at version 0 the digest is the empty value's.
     pub fn item(&self, number: u8) -> Result<Record, Fault>
-        ensures { said result ≡ item_answer (λ m. written (D.Digest.of m)) (S.Store.holds self.now.store) number }
+        ensures { said result ≡ item_answer (bytes_by D.Digest.of) (S.Store.holds self.now.store) number }
     {
-        let Some(item) = Item::new(number) else {
-            return Err(ITEM_RANGE);
-        };
-        let row = self.store.look_up(item);
-        if row.version == 0 {
-            let digest = self.digest.digest(&[], &[])?;
-            return Ok(Record {
-                version: 0,
-                value: row.value,
-                digest,
-            });
-        }
-        Ok(row)
+        look_up(&self.store, &self.digest, number)
     }
 
     pub fn mark(&self) -> Mark
@@ -68,17 +49,9 @@ impl<S: Store, D: Digest> Bank<S, D> {
         ensures { result ≡ share_refusal version }
     {
         if version == 0 {
-            return Fault {
-                cause: Cause::Malformed,
-                layer: Layer::Frame,
-                place: 1,
-            };
+            return Cause::Malformed.at(Layer::Frame, 1);
         }
-        Fault {
-            cause: Cause::NotCommitted,
-            layer: Layer::Board,
-            place: 0,
-        }
+        Cause::NotCommitted.at(Layer::Board, 0)
     }
 
     // The proof for the versions from low to high: without a commit only the empty one can be had.
@@ -87,25 +60,13 @@ impl<S: Store, D: Digest> Bank<S, D> {
         ensures bytes { out.new ≡ filled result empty_proof out.old }
     {
         if low > high {
-            return Err(Fault {
-                cause: Cause::Malformed,
-                layer: Layer::Frame,
-                place: 3,
-            });
+            return Err(Cause::Malformed.at(Layer::Frame, 3));
         }
         if high > self.count {
-            return Err(Fault {
-                cause: Cause::NotCommitted,
-                layer: Layer::Board,
-                place: 0,
-            });
+            return Err(Cause::NotCommitted.at(Layer::Board, 0));
         }
         if out.len() < 5 {
-            return Err(Fault {
-                cause: Cause::NoRoom,
-                layer: Layer::Board,
-                place: 0,
-            });
+            return Err(Cause::NoRoom.at(Layer::Board, 0));
         }
         out[0..5].copy_from_slice(&EMPTY_PROOF);
         Ok(5)

@@ -4,6 +4,7 @@ ghost use Rattle.octets.specs.Numbers.{limit};
 ghost use Rattle.entry.specs.Bodies.{Found, Pushed, entry_body, item_body, pair_body, sealed_body};
 
 use super::{Entry, ItemDigest, Pair, SealedEntry};
+use inline_vec::{Full, InlineVec};
 use octets::LIMIT;
 
 impl ItemDigest {
@@ -32,8 +33,7 @@ impl Entry {
         }
         Some(Entry {
             version,
-            count: 0,
-            items: [ItemDigest::new(0, [0; 32]); 8],
+            items: InlineVec::new(ItemDigest::new(0, [0; 32])),
         })
     }
 
@@ -46,30 +46,21 @@ impl Entry {
     pub fn len(&self) -> u8
         ensures { (result ≡ length (entry_body self.now).items) × (result ≤ 8) }
     {
-        self.count
+        self.items.len() as u8
     }
 
-    // One write more; false, and nothing changed, where there are eight.
-    pub fn push(&mut self, item: ItemDigest) -> bool
+    // One write more; refused, and nothing changed, where there are eight.
+    pub fn push(&mut self, item: ItemDigest) -> Result<(), Full>
         ensures { (Pushed item_body 8 (entry_body self.old).items (entry_body self.new).items item result) × (self.new.version ≡ self.old.version) }
     {
-        let at = self.count as usize;
-        if at >= 8 {
-            return false;
-        }
-        self.items[at] = item;
-        self.count += 1;
-        true
+        self.items.push(item)
     }
 
     // The write at a place, if there is one.
     pub fn item(&self, i: u8) -> Option<ItemDigest>
         ensures { Found item_body (entry_body self.now).items i result }
     {
-        if i >= self.count {
-            return None;
-        }
-        Some(self.items[i as usize])
+        self.items().get(usize::from(i)).copied()
     }
 }
 
@@ -80,8 +71,7 @@ impl SealedEntry {
     {
         SealedEntry {
             entry,
-            count: 0,
-            pairs: [Pair::new(0, [0; 16]); 6],
+            pairs: InlineVec::new(Pair::new(0, [0; 16])),
         }
     }
 
@@ -94,29 +84,20 @@ impl SealedEntry {
     pub fn len(&self) -> u8
         ensures { (result ≡ length (sealed_body self.now).pairs) × (result ≤ 6) }
     {
-        self.count
+        self.pairs.len() as u8
     }
 
-    // One share more; false, and nothing changed, where there are six.
-    pub fn push(&mut self, pair: Pair) -> bool
+    // One share more; refused, and nothing changed, where there are six.
+    pub fn push(&mut self, pair: Pair) -> Result<(), Full>
         ensures { (Pushed pair_body 6 (sealed_body self.old).pairs (sealed_body self.new).pairs pair result) × (self.new.entry ≡ self.old.entry) }
     {
-        let at = self.count as usize;
-        if at >= 6 {
-            return false;
-        }
-        self.pairs[at] = pair;
-        self.count += 1;
-        true
+        self.pairs.push(pair)
     }
 
     // The share at a place, if there is one.
     pub fn pair(&self, i: u8) -> Option<Pair>
         ensures { Found pair_body (sealed_body self.now).pairs i result }
     {
-        if i >= self.count {
-            return None;
-        }
-        Some(self.pairs[i as usize])
+        self.pairs().get(usize::from(i)).copied()
     }
 }

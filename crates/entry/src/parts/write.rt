@@ -7,7 +7,7 @@ ghost use Rattle.entry.specs.Bodies.{entry_body, entry_bytes, head_bytes, item_b
 ghost use Rattle.entry.specs.Written.{BodyWritten};
 
 use super::{Entry, ItemDigest, Pair, SealedEntry};
-use octets::put_number;
+use octets::{put_bytes, put_number};
 use record::piece::{Piece, put_all};
 
 // A write: the item and the digest.
@@ -22,7 +22,7 @@ impl Piece for ItemDigest {
 
     fn put(self, out: &mut [u8]) {
         out[0] = self.item;
-        out[1..33].copy_from_slice(&self.digest);
+        put_bytes(&self.digest, &mut out[1..]);
     }
 }
 
@@ -38,7 +38,7 @@ impl Piece for Pair {
 
     fn put(self, out: &mut [u8]) {
         out[0] = self.signer;
-        out[1..17].copy_from_slice(&self.tag);
+        put_bytes(&self.tag, &mut out[1..]);
     }
 }
 
@@ -56,14 +56,14 @@ impl Entry {
     pub fn items(&self) -> &[ItemDigest]
         ensures { (map item_body result.now ≡ (entry_body self.now).items) × (length result.now ≤ 8) }
     {
-        &self.items[0..self.count as usize]
+        self.items.as_slice()
     }
 
     // How many bytes the body takes.
     pub fn body_length(&self) -> usize
         ensures { (result ≡ length (entry_bytes 2 (entry_body self.now))) × (result ≤ 267) }
     {
-        3 + 33 * self.count as usize
+        3 + 33 * self.items.len()
     }
 
     // Puts the body to the front of a buffer and answers its length; none, and nothing changed, where it has no room.
@@ -74,7 +74,7 @@ impl Entry {
         if out.len() < n {
             return None;
         }
-        put_head(self.version, self.count, out);
+        put_head(self.version, self.len(), out);
         put_all(self.items(), &mut out[3..]);
         Some(n)
     }
@@ -85,14 +85,14 @@ impl SealedEntry {
     pub fn pairs(&self) -> &[Pair]
         ensures { (map pair_body result.now ≡ (sealed_body self.now).pairs) × (length result.now ≤ 6) }
     {
-        &self.pairs[0..self.count as usize]
+        self.pairs.as_slice()
     }
 
     // How many bytes the entry takes with its shares.
     pub fn length(&self) -> usize
         ensures { (result ≡ length (sealed_bytes 2 (sealed_body self.now))) × (result ≤ 369) }
     {
-        self.entry.body_length() + 17 * self.count as usize
+        self.entry.body_length() + 17 * self.pairs.len()
     }
 }
 

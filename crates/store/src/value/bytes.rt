@@ -1,43 +1,50 @@
 // How a value is made of bytes, and read.
-ghost use Rattle.std.specs.Prelude.{◌≡◌, ◌<◌, ◌≤◌, [], length, Some, None};
+ghost use Rattle.std.specs.Prelude.{◌≡◌, ◌<◌, ◌≤◌, [], length, Some, None, MatchResult};
 ghost use Rattle.store.specs.Slot.{value_of};
 
 use super::Value;
+use inline_vec::InlineVec;
+
+// No value has more than 32 bytes.
+#[derive(Clone, Copy, PartialEq, Eq, Debug)]
+pub struct TooLong;
+
+impl TryFrom<&[u8]> for Value {
+    type Error = TooLong;
+
+    ghost try_from_gives = { λ bytes r. MatchResult r (λ v. value_of v ≡ bytes.now) (λ _. 32 < length bytes.now) };
+
+    fn try_from(bytes: &[u8]) -> Result<Value, TooLong> {
+        let mut held = InlineVec::new(0);
+        held.extend_from_slice(bytes).map_err(|_| TooLong)?;
+        Ok(Value { bytes: held })
+    }
+}
 
 impl Value {
     pub fn empty() -> Value
         ensures { value_of result ≡ [] }
     {
         Value {
-            len: 0,
-            bytes: [0; 32],
+            bytes: InlineVec::new(0),
         }
     }
 
     pub fn new(bytes: &[u8]) -> Option<Value>
         ensures { elim result [ Some v ↦ value_of v ≡ bytes.now | None ↦ 32 < length bytes.now ] }
     {
-        let len = bytes.len();
-        if len > 32 {
-            return None;
-        }
-        let mut held = [0; 32];
-        held[0..len].copy_from_slice(bytes);
-        Some(Value {
-            len: len as u8,
-            bytes: held,
-        })
+        Value::try_from(bytes).ok()
     }
 
     pub fn len(&self) -> u8
         ensures { (result ≡ length (value_of self.now)) × (result ≤ 32) }
     {
-        self.len
+        self.bytes.len() as u8
     }
 
     pub fn as_slice(&self) -> &[u8]
         ensures { result.now ≡ value_of self.now }
     {
-        &self.bytes[0..self.len as usize]
+        self.bytes.as_slice()
     }
 }

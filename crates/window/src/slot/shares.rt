@@ -22,23 +22,14 @@ impl Slot {
     pub fn tag(&self, signer: u8) -> Option<[u8; 16]>
         ensures { result ≡ tag_of self.now signer }
     {
-        if signer >= 16 {
-            return None;
-        }
-        self.tags[signer as usize]
+        self.tags.get(usize::from(signer)).copied().flatten()
     }
 
     // How many signers sent a share.
     pub fn shares(&self) -> u8
         ensures { result ≡ shares_of (tag_of self.now) }
     {
-        let mut count = 0;
-        for s in 0..16 {
-            if self.tags[s].is_some() {
-                count += 1;
-            }
-        }
-        count
+        self.tags.iter().filter(|tag| tag.is_some()).count() as u8
     }
 
     // The share of a signer, in the place of one that it sent before.
@@ -55,9 +46,9 @@ impl Slot {
         ensures { sealed_body result ≡ record { entry = entry_body self.now.entry; pairs = take 6 (pairs_of (tag_of self.now)) } }
     {
         let mut sealed = SealedEntry::new(self.entry);
-        for s in 0..16u8 {
-            if let Some(tag) = self.tag(s) {
-                let _ = sealed.push(Pair::new(s, tag));
+        for (s, tag) in self.tags.iter().enumerate() {
+            if let Some(tag) = tag {
+                let _ = sealed.push(Pair::new(s as u8, *tag));
             }
         }
         sealed

@@ -1,29 +1,25 @@
-use Rattle.std.proofs.Common.{◌≡◌, ℕ, false, List, length, drop, sym, ◌∙◌, subst, arith}
-use Rattle.std.proofs.lemmas.List.{at_drop_all}
-use Rattle.store.specs.Slot.{blank}
-use Rattle.log_store.specs.Records.{has}
+use Rattle.std.proofs.Common.{◌≡◌, eqb, find, reverse, ap, sym, ◌∙◌, rules, tests}
+use Rattle.std.specs.Option.{option_map}
+use Rattle.std.proofs.lemmas.Iterator.Adapters.{YieldsList-from_rev_slice}
+use Rattle.std.proofs.lemmas.Iterator.Search.{find_from_yields_List}
+use denote.Ref.{Bor}
+use Rattle.log_store.specs.Records.{item_of}
 use Rattle.log_store.specs.declared.records.LogRecord.{LogRecord}
-use Rattle.log_store.proofs.Rows.{last_none, latest-before, none_before}
+use Rattle.log_store.proofs.Rows.{latest_none, latest_some}
 use Rattle.log_store.proofs.records.newest.Goals as goal
 
-pub loop-i-init : goal.loop-i-init
-loop-i-init c = at_drop_all (λ (ls : List LogRecord). has ls c.args.item.number) c.args.records.now (length c.args.records.now) (omega arith)
+pub returns-in-Some : goal.returns-in-Some
+returns-in-Some c =
+    let rs = c.args.records.now in
+    let x = c.args.item.number in
+    let found : option_map (λ (p : Bor LogRecord). p.now) c.find.result ≡ find (λ r. eqb (item_of r) x) (reverse rs) =
+    find_from_yields_List (λ (r : LogRecord). eqb (item_of r) x) _ _ c.find.result c.find.ensures.ran (YieldsList-from_rev_slice rs cc) (λ r b q k. search (rules, tests)) in
+    latest_some rs x c.in-Some.record.now (sym found ∙ ap (option_map (λ (p : Bor LogRecord). p.now)) c.in-Some.is)
 
-pub loop-i-preserved : goal.loop-i-preserved
-loop-i-preserved c =
-    let some = c.loop-i-test.true in
-    let most = c.loop-i.auto.i in
-    none_before c.args.records.now c.loop-i.i c.index-records-i.result c.args.item.number (omega arith) (omega arith) c.index-records-i.is c.loop-i.invariant (λ e. c.if-number.false (c.number.ensures.0 ∙ e ∙ sym c.number-in-loop-i.ensures.0))
-
-pub returns-then-number : goal.returns-then-number
-returns-then-number c =
-    let some = c.loop-i-test.true in
-    let most = c.loop-i.auto.i in
-    sym (latest-before c.args.records.now c.loop-i.i c.index-records-i.result c.args.item.number (omega arith) (omega arith) c.index-records-i.is c.loop-i.invariant (sym c.number.ensures.0 ∙ c.if-number.true ∙ c.number-in-loop-i.ensures.0))
-
-pub returns : goal.returns
-returns c =
-    let done = c.loop-i-test.false in
-    let at_0 : c.loop-i.i ≡ 0 = omega arith in
-    let none : has (drop 0 c.args.records.now) c.args.item.number ≡ false = subst (λ (k : ℕ). has (drop k c.args.records.now) c.args.item.number ≡ false) at_0 c.loop-i.invariant in
-    c.blank.ensures ∙ sym (last_none blank c.args.records.now c.args.item.number none)
+pub returns-in-None : goal.returns-in-None
+returns-in-None c =
+    let rs = c.args.records.now in
+    let x = c.args.item.number in
+    let found : option_map (λ (p : Bor LogRecord). p.now) c.find.result ≡ find (λ r. eqb (item_of r) x) (reverse rs) =
+    find_from_yields_List (λ (r : LogRecord). eqb (item_of r) x) _ _ c.find.result c.find.ensures.ran (YieldsList-from_rev_slice rs cc) (λ r b q k. search (rules, tests)) in
+    c.blank.ensures ∙ latest_none rs x (sym found ∙ ap (option_map (λ (p : Bor LogRecord). p.now)) c.in-None.is)

@@ -5,7 +5,7 @@ use Rattle.numbers.proofs.worked.second_used.Goals as goal
 
 pub returns : goal.returns
 returns c = record {
-  tracks = used_open 2 c.new-numbers.result c.use_up-opened.new.self [] 2 c.use_up-opened.result second_open
-      (c.use_up-opened.ensures.used [] c.new-numbers.ensures);
+  tracks = used_open 2 c.new-numbers.result c.use_up.new.self [] 2 c.use_up.result second_open
+      (c.use_up.ensures.used [] c.new-numbers.ensures);
   rule = after-second;
 }

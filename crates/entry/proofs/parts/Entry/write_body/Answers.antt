@@ -3,8 +3,8 @@ use Rattle.std.specs.List.{flat_map}
 use Rattle.std.proofs.lemmas.List.{take_rest}
 use Rattle.octets.specs.Parts.{over}
 use Rattle.record.proofs.Puts.{put_behind, every_unit}
+use Rattle.inline_vec.specs.Lists.{items}
 use Rattle.entry.specs.Bodies.{item_body, item_bytes, head_bytes}
-use Rattle.entry.proofs.Fronts.{front_length}
 use Rattle.entry.proofs.Sizes.{joined-map}
 use Rattle.entry.proofs.parts.Entry.write_body.Goals as goal
 
@@ -20,13 +20,12 @@ returns c =
     let old = c.args.out.now in
     let top = c.put_head.new.out in
     let rest = take (length top - 3) (drop 3 top) in
-    let its = flat_map item_bytes (map item_body (take e.count e.items)) in
-    let count = front_length item_body e.items e.count (omega (arith, e.few, e.room)) in
+    let its = flat_map item_bytes (map item_body (items e.items)) in
     let same = joined-map item_body item_bytes c.items.result.now ∙ ap (flat_map item_bytes) c.items.ensures.0 in
     let last = c.put_all.ensures.bytes ∙ ap (λ l. over l rest) same in
-    let put = put_behind (head_bytes 2 e.version e.count) its old top c.put_all.new.out 3 (omega arith) c.put_head.ensures last in (
+    let put = put_behind (head_bytes 2 e.version c.len.result) its old top c.put_all.new.out 3 (omega arith) c.put_head.ensures last in (
       c.body_length-n.ensures.0,
       c.body_length-n.ensures.1,
       c.if-out-n.false,
-      put ∙ ap (λ n. over (head_bytes 2 e.version n ++ its) old) count,
+      put ∙ ap (λ n. over (head_bytes 2 e.version n ++ its) old) c.len.ensures.0,
     )

@@ -1,8 +1,8 @@
-use Rattle.std.proofs.Common.{◌%◌, ◌<◌, length, take, ap, ◌∙◌, arith, rules}
-use Rattle.std.proofs.lemmas.List.{get_or_default, take_all}
+use Rattle.std.proofs.Common.{take, ap, ◌∙◌, arith}
+use Rattle.std.proofs.lemmas.List.{take_all}
 use Rattle.entry.specs.Bodies.{SealedBody, entry_body}
 use Rattle.window.specs.Shares.{pairs_of}
-use Rattle.window.specs.Windows.{no_slot, pairs_in, tag_in, tag_of}
+use Rattle.window.specs.Windows.{pairs_in, tag_in, tag_of}
 use Rattle.window.specs.declared.slot.Slot.{Slot}
 use Rattle.window.proofs.ShareLaws.{length_pairs, pairs-rise}
 use Rattle.window.proofs.ring.Window.sealed.Goals as goal
@@ -11,10 +11,8 @@ pub returns : goal.returns
 returns c =
     let w = c.args.self.now in
     let v = c.args.version in
-    let lt : v % 32 < length w.slots = search rules in
-    let is = get_or_default w.slots (v % 32) c.index-self-version.result no_slot lt in
     let said : Slot → SealedBody = λ s. record { entry = entry_body s.entry; pairs = take 6 (pairs_of (tag_of s)) } in
-    let six = c.sealed.ensures ∙ ap said is in
+    let six = c.sealed.ensures ∙ ap said c.slot.ensures in
     record {
       six = six;
       all = λ few. ap (λ (b : SealedBody). b.pairs) six ∙ take_all 6 (pairs_in w v) (omega (arith, length_pairs (tag_in w v) 16));

@@ -1,4 +1,4 @@
-use Rattle.std.proofs.Common.{◌≡◌, List, [], ◌∷◌, ◌++◌, take, sym, ap, ◌∙◌, subst, arith}
+use Rattle.std.proofs.Common.{◌≡◌, List, [], ◌∷◌, ◌++◌, take, sym, ap, ◌∙◌, subst}
 use Rattle.entry.specs.Bodies.{EntryBody, PairBody, SealedBody, Pushed, entry_body, pair_body, sealed_body}
 use Rattle.entry.specs.declared.parts.SealedEntry.{SealedEntry}
 use Rattle.window.specs.Shares.{pairs_below}
@@ -25,19 +25,11 @@ loop-s-preserved c =
           let pair : pair_body w.new.result ≡ record { signer = n; tag = w.in-Some.tag } = (λ i. record { signer = made.0 i; tag = made.1 i }) in
           let pushed = subst (λ bs. Pushed pair_body 6 bs (pairs w.push.new.self) w.new.result w.push.result) c.loop-s.invariant.0 w.push.ensures.0 in
           let more = six-more pair_body (pairs_below tag n) (pairs w.push.new.self) w.new.result w.push.result pushed in (
-            ap pairs w.sealed-is ∙ more
-                ∙ ap (take 6) (ap (λ p. pairs_below tag n ++ p ∷ []) pair ∙ sym (pairs_yes tag n w.in-Some.tag (sym w.in-Some.ensures))),
+            ap pairs w.sealed-is ∙ more ∙ ap (take 6) (ap (λ p. pairs_below tag n ++ p ∷ []) pair ∙ sym (pairs_yes tag n w.in-Some.tag w.in-Some.is)),
             ap body w.sealed-is ∙ ap entry_body w.push.ensures.1 ∙ c.loop-s.invariant.1,
           )
       | in_default w ↦ (
-        ap pairs w.sealed-is ∙ c.loop-s.invariant.0 ∙ ap (take 6) (sym (pairs_no tag n (sym c.tag.ensures ∙ w.in_default.is))),
+        ap pairs w.sealed-is ∙ c.loop-s.invariant.0 ∙ ap (take 6) (sym (pairs_no tag n w.in_default.is)),
         ap body w.sealed-is ∙ c.loop-s.invariant.1,
       )
     ]
-
-pub returns : goal.returns
-returns c =
-    let at : c.loop-s.s ≡ 16 = omega (arith, c.loop-s-test.false, c.loop-s.auto.s-end) in
-    let pairs = c.loop-s.invariant.0 ∙ ap (λ n. take 6 (pairs_below (tag_of c.args.self.now) n)) at in
-    let entry = c.loop-s.invariant.1 in
-    (λ i. record { entry = entry i; pairs = pairs i })

@@ -1,7 +1,0 @@
-use Rattle.std.proofs.Common.{◌≡◌, ◌≤◌}
-use Rattle.window.specs.Shares.{shares_below}
-use Rattle.window.specs.Windows.{tag_of}
-use Rattle.window.proofs.slot.Slot.shares.Given as goal
-
-abbrev pub invariant-loop-s : goal.invariant-loop-s
-invariant-loop-s l = (l.count ≡ shares_below (tag_of l.self) l.s) × (l.count ≤ l.s)
