@@ -3,9 +3,11 @@
 
 ghost use Rattle.frame.specs.Frames.{FrameRead, PartsFound};
 
-use fault::{Cause, Fault, Layer};
+use fault::Fault;
 use proof::read::{Proof, read_proof};
 use reading::{Reading, read_reading};
+use record::kind::Kind;
+use record::malformed;
 use request::{Request, read_request};
 use share::{Share, read_share};
 
@@ -17,32 +19,21 @@ pub enum Frame<'a> {
     Reading(Reading<'a>),
 }
 
-const NO_KIND: Fault = Fault {
-    cause: Cause::Malformed,
-    layer: Layer::Frame,
-    place: 0,
-};
-
 // Reads a frame in place, among 3 f + 1 boards; a first byte that is no kind is refused there.
 pub fn read_frame<'a>(bytes: &'a [u8], f: u8) -> Result<Frame<'a>, Fault>
     ensures read { FrameRead f bytes.now result }
     ensures parts { PartsFound bytes.now result }
 {
-    if bytes.is_empty() {
-        return Err(NO_KIND);
+    let Some(first) = bytes.first() else {
+        return Err(malformed(0));
+    };
+    let Ok(kind) = Kind::try_from(*first) else {
+        return Err(malformed(0));
+    };
+    match kind {
+        Kind::Request => Ok(Frame::Request(read_request(bytes)?)),
+        Kind::Share => Ok(Frame::Share(read_share(bytes, f)?)),
+        Kind::Proof => Ok(Frame::Proof(read_proof(bytes, f)?)),
+        Kind::Reading => Ok(Frame::Reading(read_reading(bytes)?)),
     }
-    let kind = bytes[0];
-    if kind == 1 {
-        return Ok(Frame::Request(read_request(bytes)?));
-    }
-    if kind == 2 {
-        return Ok(Frame::Share(read_share(bytes, f)?));
-    }
-    if kind == 4 {
-        return Ok(Frame::Proof(read_proof(bytes, f)?));
-    }
-    if kind == 5 {
-        return Ok(Frame::Reading(read_reading(bytes)?));
-    }
-    Err(NO_KIND)
 }

@@ -10,23 +10,55 @@ mod tests {
     use share::{ShareDraft, read_share, write_share};
     use std::test::Fail;
 
-    // Whether a fault of a frame is the one expected.
-    fn is(fault: Fault, cause: Cause, place: u32) -> bool {
-        fault.cause == cause && fault.layer == Layer::Frame && fault.place == place
-    }
-
     fn share_refused(bytes: &[u8], cause: Cause, place: u32) -> bool {
-        match read_share(bytes, 1) {
-            Ok(_) => false,
-            Err(fault) => is(fault, cause, place),
-        }
+        read_share(bytes, 1).err() == Some(cause.at(Layer::Frame, place))
     }
 
     fn request_refused(bytes: &[u8], cause: Cause, place: u32) -> bool {
-        match read_request(bytes) {
-            Ok(_) => false,
-            Err(fault) => is(fault, cause, place),
+        read_request(bytes).err() == Some(cause.at(Layer::Frame, place))
+    }
+
+    // Whether every shorter front of a frame is refused at its length, and the frame with a byte behind it at that byte.
+    fn no_other_length_passes<F: Fn(&[u8], Cause, u32) -> bool>(
+        frame: &[u8],
+        longer: &[u8],
+        refused: F,
+    ) -> bool
+        requires { F.IsAlwaysCallable refused }
+    {
+        // The range is one of lengths, and a place has 32 bits, so the length is bounded first.
+        if frame.len() > 1000 {
+            return false;
         }
+        (0..frame.len()).all(|n| refused(&frame[..n], Cause::Malformed, n as u32))
+            && refused(longer, Cause::Malformed, frame.len() as u32)
+    }
+
+    // Whether a writer that gets this much of a buffer of sevens is refused, and the buffer's ends are left.
+    fn not_written<F: FnOnce(&mut [u8]) -> Result<usize, Fault>>(
+        out: &mut [u8],
+        room: usize,
+        write: F,
+        cause: Cause,
+        place: u32,
+    ) -> bool
+        requires { F.IsAlwaysCallable write }
+    {
+        let Some(part) = out.get_mut(..room) else {
+            return false;
+        };
+        let written = write(part);
+        written == Err(cause.at(Layer::Frame, place))
+            && out.first() == Some(&7)
+            && out.last() == Some(&7)
+    }
+
+    // The frame with one byte changed.
+    fn with<const N: usize>(mut frame: [u8; N], at: usize, byte: u8) -> [u8; N] {
+        if at < N {
+            frame[at] = byte;
+        }
+        frame
     }
 
     // A share of board 3 over entry 258.
@@ -47,11 +79,7 @@ mod tests {
 
     // The share with one byte changed.
     fn share_with(at: usize, byte: u8, cause: Cause, place: u32) -> bool {
-        let mut bytes = share();
-        if at < 20 {
-            bytes[at] = byte;
-        }
-        share_refused(&bytes, cause, place)
+        share_refused(&with(share(), at, byte), cause, place)
     }
 
     #[test]
@@ -64,26 +92,11 @@ mod tests {
         Ok(())
     }
 
-    // Whether every shorter front of the bytes is refused at its length.
-    fn no_front_is_a_share(bytes: &[u8]) -> bool {
-        if bytes.len() > 1000 {
-            return false;
-        }
-        for n in 0..bytes.len() {
-            if !share_refused(&bytes[0..n], Cause::Malformed, n as u32) {
-                return false;
-            }
-        }
-        true
-    }
-
     #[test]
     fn a_share_of_every_other_length_is_refused(rt: HostRuntime) {
-        let bytes = share();
-        assert!(rt; no_front_is_a_share(&bytes));
         let mut longer = [0; 21];
         put_share(&mut longer);
-        assert!(rt; share_refused(&longer, Cause::Malformed, 20));
+        assert!(rt; no_other_length_passes(&share(), &longer, share_refused));
     }
 
     #[test]
@@ -99,20 +112,18 @@ mod tests {
     }
 
     fn share_not_written(signer: u8, version: u32, room: usize, cause: Cause, place: u32) -> bool {
-        let mut out = [7; 20];
         let draft = ShareDraft {
             signer,
             version,
             tag: [9; 16],
         };
-        if room > 20 {
-            return false;
-        }
-        let refused = match write_share(draft, 1, &mut out[0..room]) {
-            Ok(_) => false,
-            Err(fault) => is(fault, cause, place),
-        };
-        refused && out[0] == 7 && out[19] == 7
+        not_written(
+            &mut [7; 20],
+            room,
+            |out| write_share(draft, 1, out),
+            cause,
+            place,
+        )
     }
 
     #[test]
@@ -126,11 +137,7 @@ mod tests {
     }
 
     fn all_reads() -> [ReadItem; 16] {
-        let mut reads = [ReadItem::new(0, 1, [7; 32]); 16];
-        for i in 0..16usize {
-            reads[i] = ReadItem::new(i as u8, 1, [7; 32]);
-        }
-        reads
+        std::array::from_fn(|i| ReadItem::new(i as u8, 1, [7; 32]))
     }
 
     // Writes to the items 0 to 7 under one value, of which one is changed.
@@ -140,17 +147,34 @@ mod tests {
         item: u8,
         other: &'a [u8],
     ) -> [WriteItem<'a>; 8] {
-        let mut writes = [WriteItem { item: 0, value }; 8];
-        for i in 0..8usize {
-            writes[i] = WriteItem {
-                item: i as u8,
-                value,
-            };
-        }
+        let mut writes: [WriteItem<'a>; 8] = std::array::from_fn(|i| WriteItem {
+            item: i as u8,
+            value,
+        });
         if at < 8 {
             writes[at] = WriteItem { item, value: other };
         }
         writes
+    }
+
+    // Writes a request under a tag of bytes 5.
+    fn put_request(
+        client: u8,
+        sequence: u32,
+        reads: &[ReadItem],
+        writes: &[WriteItem],
+        out: &mut [u8],
+    ) -> Result<usize, Fault> {
+        write_request(
+            Draft {
+                client,
+                sequence,
+                reads,
+                writes,
+                tag: [5; 16],
+            },
+            out,
+        )
     }
 
     // Writes the largest request: sixteen reads, eight writes of 32 bytes each.
@@ -162,32 +186,18 @@ mod tests {
     ) -> Result<usize, Fault> {
         let value = [9; 32];
         let writes = one_write_changed(&value, 0, 0, &value);
-        write_request(
-            Draft {
-                client,
-                sequence,
-                reads,
-                writes: &writes,
-                tag: [5; 16],
-            },
-            out,
-        )
+        put_request(client, sequence, reads, &writes, out)
     }
 
     fn largest() -> [u8; 854] {
         let mut out = [0; 854];
-        let reads = all_reads();
-        let _ = put_largest(&reads, 3, 2, &mut out);
+        let _ = put_largest(&all_reads(), 3, 2, &mut out);
         out
     }
 
     // The largest request with one byte changed.
     fn request_with(at: usize, byte: u8, cause: Cause, place: u32) -> bool {
-        let mut bytes = largest();
-        if at < 854 {
-            bytes[at] = byte;
-        }
-        request_refused(&bytes, cause, place)
+        request_refused(&with(largest(), at, byte), cause, place)
     }
 
     #[test]
@@ -207,27 +217,11 @@ mod tests {
         Ok(())
     }
 
-    // Whether every shorter front of the bytes is refused at its length.
-    fn no_front_is_a_request(bytes: &[u8]) -> bool {
-        if bytes.len() > 1000 {
-            return false;
-        }
-        for n in 0..bytes.len() {
-            if !request_refused(&bytes[0..n], Cause::Malformed, n as u32) {
-                return false;
-            }
-        }
-        true
-    }
-
     #[test]
     fn a_request_of_every_other_length_is_refused(rt: HostRuntime) {
-        let bytes = largest();
-        assert!(rt; no_front_is_a_request(&bytes));
         let mut longer = [0; 855];
-        let reads = all_reads();
-        let _ = put_largest(&reads, 3, 2, &mut longer);
-        assert!(rt; request_refused(&longer, Cause::Malformed, 854));
+        let _ = put_largest(&all_reads(), 3, 2, &mut longer);
+        assert!(rt; no_other_length_passes(&largest(), &longer, request_refused));
     }
 
     #[test]
@@ -261,11 +255,9 @@ mod tests {
 
     // Gives the reads of the largest request every item but one.
     fn leave_out(item: u8, bytes: &mut [u8]) {
-        for i in 0..16u8 {
-            let at = 6 + 35 * i as usize;
-            if at < bytes.len() {
-                bytes[at] = if i < item { i } else { i + 1 };
-            }
+        let others = (0..=16u8).filter(|other| *other != item);
+        for (byte, other) in bytes.iter_mut().skip(6).step_by(35).zip(others) {
+            *byte = other;
         }
     }
 
@@ -292,15 +284,8 @@ mod tests {
         cause: Cause,
         place: u32,
     ) -> bool {
-        let mut out = [7; 854];
-        if room > 854 {
-            return false;
-        }
-        let refused = match put_largest(reads, client, sequence, &mut out[0..room]) {
-            Ok(_) => false,
-            Err(fault) => is(fault, cause, place),
-        };
-        refused && out[0] == 7 && out[853] == 7
+        let write = |out: &mut [u8]| put_largest(reads, client, sequence, out);
+        not_written(&mut [7; 854], room, write, cause, place)
     }
 
     #[test]
@@ -347,24 +332,12 @@ mod tests {
     // Whether the largest request is refused where one of its writes has another item, or n bytes.
     fn write_not_written(at: usize, item: u8, n: usize, cause: Cause, place: u32) -> bool {
         let long = [9; 40];
-        let mut out = [7; 854];
-        let reads = all_reads();
         if n > 40 {
             return false;
         }
         let writes = one_write_changed(&long[0..32], at, item, &long[0..n]);
-        let draft = Draft {
-            client: 3,
-            sequence: 2,
-            reads: &reads,
-            writes: &writes,
-            tag: [5; 16],
-        };
-        let as_due = match write_request(draft, &mut out) {
-            Ok(_) => false,
-            Err(fault) => is(fault, cause, place),
-        };
-        as_due && out[0] == 7 && out[853] == 7
+        let write = |out: &mut [u8]| put_request(3, 2, &all_reads(), &writes, out);
+        not_written(&mut [7; 854], 854, write, cause, place)
     }
 
     #[test]
@@ -389,22 +362,12 @@ mod tests {
             item: 64,
             value: &value,
         }; 9];
-        let mut out = [7; 854];
         if reads > 17 || writes > 9 {
             return false;
         }
-        let draft = Draft {
-            client: 3,
-            sequence: 2,
-            reads: &all_reads[0..reads],
-            writes: &all_writes[0..writes],
-            tag: [5; 16],
-        };
-        let as_due = match write_request(draft, &mut out) {
-            Ok(_) => false,
-            Err(fault) => is(fault, Cause::Malformed, place),
-        };
-        as_due && out[0] == 7 && out[853] == 7
+        let (reads, writes) = (&all_reads[0..reads], &all_writes[0..writes]);
+        let write = |out: &mut [u8]| put_request(3, 2, reads, writes, out);
+        not_written(&mut [7; 854], 854, write, Cause::Malformed, place)
     }
 
     #[test]
@@ -424,16 +387,7 @@ mod tests {
             item: 5,
             value: &value,
         }];
-        let n = write_request(
-            Draft {
-                client: 0,
-                sequence: 1,
-                reads: &reads,
-                writes: &writes,
-                tag: [5; 16],
-            },
-            &mut out,
-        )?;
+        let n = put_request(0, 1, &reads, &writes, &mut out)?;
         assert!(rt; n == 60 && out[59] == 5 && out[60] == 1);
         Ok(())
     }

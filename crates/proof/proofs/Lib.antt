@@ -4,6 +4,8 @@ pub mod Keeping
 mod Turns
 mod Whole
 mod Strides
+pub mod Stepping
+pub mod Walking
 mod Laid
 pub mod Weighing
 pub mod Writes

@@ -152,20 +152,17 @@ entries_split w f due n bs at =
     ∙ scan_then Proof bs (λ e. end_of (entries_from w f (due + 1) n) bs e) (sealed_from w f due) (λ a e. Ok e) (λ one e. scan Proof (rest one) ends bs e) at
     (λ one e. scan-follow Proof bs (entries_from w f (due + 1) n) (λ xs. end (one ∷ xs)) ends e)
 
-module _ (w f low n i : ℕ) (bs : List ℕ) (at : ℕ) (h : i < n) where
-  entry_turn : end_of (entries_from w f (low + i) (n - i)) bs at ≡ and_then (end_of (sealed_from w f (low + i)) bs at) (λ e. end_of (entries_from w f (low + (i + 1)) (n - (i + 1))) bs e)
+module _ (w f due stop : ℕ) (bs : List ℕ) (at : ℕ) (h : due < stop) where
+  entry_turn : end_of (entries_from w f due (stop - due)) bs at ≡ and_then (end_of (sealed_from w f due) bs at) (λ e. end_of (entries_from w f (due + 1) (stop - (due + 1))) bs e)
   entry_turn =
-      let m : n - i ≡ suc (n - (i + 1)) = omega arith in
-      let d : low + i + 1 ≡ low + (i + 1) = omega arith in
-      ap (λ k. end_of (entries_from w f (low + i) k) bs at) m
-      ∙ entries_split w f (low + i) (n - (i + 1)) bs at
-      ∙ ap (λ k. and_then (end_of (sealed_from w f (low + i)) bs at) (λ e. end_of (entries_from w f k (n - (i + 1))) bs e)) d
+      let m : stop - due ≡ suc (stop - (due + 1)) = omega arith in
+      ap (λ k. end_of (entries_from w f due k) bs at) m ∙ entries_split w f due (stop - (due + 1)) bs at
 
-  pub next-entry : (e : ℕ) → end_of (sealed_from w f (low + i)) bs at ≡ Ok e → end_of (entries_from w f (low + i) (n - i)) bs at ≡ end_of (entries_from w f (low + (i + 1)) (n - (i + 1))) bs e
-  next-entry e q = entry_turn ∙ then_ok (end_of (sealed_from w f (low + i)) bs at) (λ e. end_of (entries_from w f (low + (i + 1)) (n - (i + 1))) bs e) e q
+  pub next-entry : (e : ℕ) → end_of (sealed_from w f due) bs at ≡ Ok e → end_of (entries_from w f due (stop - due)) bs at ≡ end_of (entries_from w f (due + 1) (stop - (due + 1))) bs e
+  next-entry e q = entry_turn ∙ then_ok (end_of (sealed_from w f due) bs at) (λ e. end_of (entries_from w f (due + 1) (stop - (due + 1))) bs e) e q
 
-  pub bad_entry : (d : Fault) → end_of (sealed_from w f (low + i)) bs at ≡ Err d → end_of (entries_from w f (low + i) (n - i)) bs at ≡ Err d
-  bad_entry d q = entry_turn ∙ then_err (end_of (sealed_from w f (low + i)) bs at) (λ e. end_of (entries_from w f (low + (i + 1)) (n - (i + 1))) bs e) d q
+  pub bad_entry : (d : Fault) → end_of (sealed_from w f due) bs at ≡ Err d → end_of (entries_from w f due (stop - due)) bs at ≡ Err d
+  bad_entry d q = entry_turn ∙ then_err (end_of (sealed_from w f due) bs at) (λ e. end_of (entries_from w f (due + 1) (stop - (due + 1))) bs e) d q
 
-pub no_entry : (w f low n i : ℕ) (bs : List ℕ) (at : ℕ) → n ≤ i → end_of (entries_from w f (low + i) (n - i)) bs at ≡ Ok at
-no_entry w f low n i bs at h = let m : n - i ≡ 0 = omega arith in ap (λ k. end_of (entries_from w f (low + i) k) bs at) m
+pub no_entry : (w f due stop : ℕ) (bs : List ℕ) (at : ℕ) → stop ≤ due → end_of (entries_from w f due (stop - due)) bs at ≡ Ok at
+no_entry w f due stop bs at h = let m : stop - due ≡ 0 = omega arith in ap (λ k. end_of (entries_from w f due k) bs at) m

@@ -36,7 +36,7 @@ pairs_solid (x ∷ xs) = (x.whole, pairs_solid xs)
 
 pub solid : (es : List SealedEntry) → AllByRecursion Solid (map sealed_body es)
 solid [] = tt
-solid (s ∷ ss) = (record { items = items_solid (take s.entry.count s.entry.items); pairs = pairs_solid (take s.count s.pairs) }, solid ss)
+solid (s ∷ ss) = (record { items = items_solid _; pairs = pairs_solid _ }, solid ss)
 
 -- a proof whose low passes: high is judged, then the entries
 pub behind-low : (f low high : ℕ) (es : List SealedEntry) → 1 ≤ low → low ≤ limit 2

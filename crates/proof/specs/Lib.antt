@@ -3,5 +3,7 @@ pub mod Rules
 pub mod Promises
 pub mod Ends
 pub mod Parts
+pub mod Turns
 pub mod Writing
+pub mod Drafts
 pub mod Sizes

@@ -35,8 +35,6 @@ pub record PartHolds (f at : ℕ) (x : SealedPart) (s : SealedBody) : Type 0 whe
   pub version : x.version ≡ s.entry.version
   pub place : x.place ≡ at
   pub near : at ≤ 1000000
-  pub writes : x.writes ≡ length s.entry.items
-  pub tags : x.tags ≡ length s.pairs
   pub body : x.body.now ≡ entry_bytes 2 s.entry
   pub pairs : x.pairs.now ≡ flat_map pair_bytes s.pairs
   pub in_range : SealedIn f s.entry.version s

@@ -45,11 +45,7 @@ pub(crate) fn malformed(place: usize) -> Fault
     requires { place < 2 ^ 32 }
     ensures { result ≡ fault Malformed Proof place }
 {
-    Fault {
-        cause: Cause::Malformed,
-        layer: Layer::Proof,
-        place: place as u32,
-    }
+    Cause::Malformed.at(Layer::Proof, place as u32)
 }
 
 // The number of a record by rules 1, 2 and 5, in this order.
@@ -66,19 +62,11 @@ pub(crate) fn check_number(
         return Err(malformed(place));
     }
     if !is_above(last, number as u32) {
-        return Err(Fault {
-            cause: Cause::NotRising,
-            layer: Layer::Proof,
-            place: place as u32,
-        });
+        return Err(Cause::NotRising.at(Layer::Proof, place as u32));
     }
     if let Some(f) = kind.boards {
         if number as u32 >= 3 * f as u32 + 1 {
-            return Err(Fault {
-                cause: Cause::NotMember,
-                layer: Layer::Proof,
-                place: place as u32,
-            });
+            return Err(Cause::NotMember.at(Layer::Proof, place as u32));
         }
     }
     Ok(())

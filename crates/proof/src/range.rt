@@ -6,6 +6,7 @@ ghost use Rattle.proof.specs.Ends.{range_of};
 use crate::kind::malformed;
 use fault::Fault;
 use octets::number_at;
+use record::kind::Kind;
 
 #[derive(Clone, Copy)]
 pub(crate) struct Range {
@@ -30,7 +31,7 @@ pub(crate) fn read_range(bytes: &[u8]) -> Result<Range, Fault>
     if n < 1 {
         return Err(malformed(n));
     }
-    if bytes[0] != 4 {
+    if bytes[0] != Kind::Proof as u8 {
         return Err(malformed(0));
     }
     if n < 3 {

@@ -1,4 +1,4 @@
-// The reader's scan over a frame, from the front.
+// The reader's scan over a frame, from the front. The place goes through arguments and answers, as in the rules, so no cursor holds it.
 ghost use Rattle.std.specs.Prelude.{◌≡◌, ◌+◌, ◌-◌, ◌*◌, ◌^◌, ◌<◌, ◌≤◌, length, IfOk, None};
 ghost use Rattle.proof.specs.Ends.{count_of, end_of, records_to};
 ghost use Rattle.proof.specs.Rules.{entries_from, sealed_from};
@@ -21,7 +21,7 @@ pub(crate) fn read_records(
     let n = bytes.len();
     let mut at = start;
     let mut last = None;
-    for i in 0..count {
+    for _ in 0..count {
         if n <= at {
             return Err(malformed(n));
         }
@@ -77,8 +77,8 @@ pub(crate) fn read_entries(bytes: &[u8], low: u32, count: u32, f: u8) -> Result<
     ensures answer { result ≡ end_of (entries_from 2 f low count) bytes.now 5 }
 {
     let mut at = 5;
-    for i in 0..count {
-        at = read_sealed(bytes, at, low + i, f)?;
+    for due in low..low + count {
+        at = read_sealed(bytes, at, due, f)?;
     }
     Ok(at)
 }

@@ -1,15 +1,11 @@
-// A proof that is to be written, judged from the front as its reader does.
+// The entries of a proof that is to be written, judged from the front as its reader does.
 ghost use Rattle.std.specs.Prelude.{◌≡◌, ℕ, ◌+◌, ◌-◌, ◌*◌, ◌^◌, ◌<◌, ◌≤◌, ◌&&◌, map, length, IfOk, None, ◌==◌, nat_le};
-ghost use Rattle.octets.specs.Numbers.{limit};
 ghost use Rattle.entry.specs.Bodies.{sealed_body};
-ghost use Rattle.proof.specs.Bodies.{range};
-ghost use Rattle.proof.specs.Writing.{drafted, weigh_entries, weigh_proof, weigh_records, weigh_sealed};
+ghost use Rattle.proof.specs.Writing.{weigh_entries, weigh_records, weigh_sealed};
 
 use crate::kind::{Kind, check_number, items, malformed, pairs};
-use crate::range::is_range;
 use entry::parts::{ItemDigest, Pair, SealedEntry};
 use fault::Fault;
-use octets::LIMIT;
 
 // A record that carries a number.
 pub(crate) trait Keyed: Copy {
@@ -48,6 +44,7 @@ fn weigh_records<R: Keyed>(
 {
     let mut at = start;
     let mut last = None;
+    // Counts down what is still due, as the rule on the count does.
     let mut left = due;
     for r in records {
         if left == 0 {
@@ -90,36 +87,8 @@ pub(crate) fn weigh_entries(entries: &[SealedEntry], low: u32, f: u8) -> Result<
     ensures answer { result ≡ weigh_entries 2 f low (map sealed_body entries.now) 5 }
 {
     let mut at = 5;
-    let mut due = low;
-    for sealed in entries {
-        at = weigh_sealed(sealed, due, f, at)?;
-        due += 1;
+    for (i, sealed) in entries.iter().enumerate() {
+        at = weigh_sealed(sealed, low + i as u32, f, at)?;
     }
     Ok(at)
-}
-
-// Whether high fits its width, makes a range with low and gives the number of entries.
-fn covers(low: u32, high: u32, count: usize) -> bool
-    requires { low ≤ limit 2 }
-    ensures { result ≡ (nat_le high (limit 2) && (range low high && count == high + 1 - low)) }
-{
-    high <= LIMIT && is_range(low, high) && count == (high + 1 - low) as usize
-}
-
-// Judges a whole proof, and answers where its frame ends.
-pub(crate) fn weigh_proof(
-    low: u32,
-    high: u32,
-    entries: &[SealedEntry],
-    f: u8,
-) -> Result<usize, Fault>
-    ensures { result ≡ weigh_proof 2 f (drafted low high entries.now) }
-{
-    if low < 1 || low > LIMIT {
-        return Err(malformed(1));
-    }
-    if !covers(low, high, entries.len()) {
-        return Err(malformed(3));
-    }
-    weigh_entries(entries, low, f)
 }

@@ -9,32 +9,29 @@ mod tests {
     use proof::write::write_proof;
     use std::test::Fail;
 
-    // Whether a fault is the one expected; only the writer's room is of the frame's layer.
-    fn is(fault: Fault, cause: Cause, place: u32) -> bool {
+    // The refusal for a cause; only the writer's room is of the frame's layer.
+    fn fault(cause: Cause, place: u32) -> Fault {
         let layer = if cause == Cause::NoRoom {
             Layer::Frame
         } else {
             Layer::Proof
         };
-        fault.cause == cause && fault.layer == layer && fault.place == place
+        cause.at(layer, place)
     }
 
     fn refused(bytes: &[u8], cause: Cause, place: u32) -> bool {
-        match read_proof(bytes, 5) {
-            Ok(_) => false,
-            Err(fault) => is(fault, cause, place),
-        }
+        read_proof(bytes, 5).err() == Some(fault(cause, place))
     }
 
     // An entry of the items from a first one on, with the pairs of the signers from a first one on.
     fn sealed(version: u32, item: u8, writes: u8, signer: u8, tags: u8) -> Option<SealedEntry> {
         let mut body = Entry::new(version)?;
-        for k in 0..writes {
-            body.push(ItemDigest::new(item.saturating_add(k), [7; 32]));
+        for item in item..item.saturating_add(writes) {
+            body.push(ItemDigest::new(item, [7; 32])).ok()?;
         }
         let mut all = SealedEntry::new(body);
-        for k in 0..tags {
-            all.push(Pair::new(signer.saturating_add(k), [9; 16]));
+        for signer in signer..signer.saturating_add(tags) {
+            all.push(Pair::new(signer, [9; 16])).ok()?;
         }
         Some(all)
     }
@@ -42,8 +39,8 @@ mod tests {
     // Versions 1 to 32, each of eight writes and six pairs.
     fn full() -> Option<[SealedEntry; 32]> {
         let mut all = [sealed(1, 0, 8, 0, 6)?; 32];
-        for i in 0..32usize {
-            all[i] = sealed(i as u32 + 1, 0, 8, 0, 6)?;
+        for (entry, version) in all.iter_mut().zip(1..) {
+            *entry = sealed(version, 0, 8, 0, 6)?;
         }
         Some(all)
     }
@@ -53,10 +50,7 @@ mod tests {
         let Some(all) = full() else {
             return false;
         };
-        match write_proof(1, 32, &all, 5, out) {
-            Ok(n) => n == 11813,
-            Err(_) => false,
-        }
+        write_proof(1, 32, &all, 5, out) == Ok(11813)
     }
 
     fn largest() -> [u8; 11813] {
@@ -71,9 +65,8 @@ mod tests {
         let read = read_proof(&bytes, 5)?;
         assert!(rt; read.low() == 1 && read.high() == 32 && read.len() == 32);
         let last = read.entry(31).ok_or("no entry")?;
-        assert!(rt;
-            last.version == 32 && last.place == 11444 && last.writes == 8 && last.tags == 6
-        );
+        assert!(rt; last.version == 32 && last.place == 11444);
+        assert!(rt; last.items().count() == 8 && last.pairs().count() == 6);
         let item = last.item(7).ok_or("no write")?;
         assert!(rt; item.item == 7 && item.digest.len() == 32);
         let pair = last.pair(5).ok_or("no pair")?;
@@ -84,15 +77,11 @@ mod tests {
 
     // Whether every shorter front of the bytes is refused at its length.
     fn no_front_is_a_proof(bytes: &[u8]) -> bool {
+        // The range is one of lengths, and a place has 32 bits, so the length is bounded first.
         if bytes.len() > 20000 {
             return false;
         }
-        for n in 0..bytes.len() {
-            if !refused(&bytes[0..n], Cause::Malformed, n as u32) {
-                return false;
-            }
-        }
-        true
+        (0..bytes.len()).all(|n| refused(&bytes[..n], Cause::Malformed, n as u32))
     }
 
     #[test]
@@ -169,19 +158,13 @@ mod tests {
         if room > 11813 {
             return false;
         }
-        let refused = match write_proof(low, high, entries, 5, &mut out[0..room]) {
-            Ok(_) => false,
-            Err(fault) => is(fault, cause, place),
-        };
-        refused && out[0] == 7 && out[11812] == 7
+        let written = write_proof(low, high, entries, 5, &mut out[0..room]);
+        written == Err(fault(cause, place)) && out[0] == 7 && out[11812] == 7
     }
 
     #[test]
     fn a_range_that_no_proof_has_is_not_written(rt: HostRuntime) -> Result<(), Fail> {
-        let Some(all) = full() else {
-            assert!(rt; false);
-            return Ok(());
-        };
+        let all = full().ok_or("no entries")?;
         assert!(rt; not_written(&all, 0, 32, 11813, Cause::Malformed, 1));
         assert!(rt; not_written(&all, 65536, 65567, 11813, Cause::Malformed, 1));
         assert!(rt; not_written(&all, 65505, 65536, 11813, Cause::Malformed, 3));
@@ -200,10 +183,7 @@ mod tests {
         if i > 31 || behind > 369 {
             return false;
         }
-        let Some(mut all) = full() else {
-            return false;
-        };
-        let Some(entry) = other else {
+        let (Some(mut all), Some(entry)) = (full(), other) else {
             return false;
         };
         all[i] = entry;
@@ -213,11 +193,12 @@ mod tests {
     // An entry whose second write has the first one's item; or only its second pair has the first one's signer.
     fn unrisen(version: u32, same_item: bool) -> Option<SealedEntry> {
         let mut body = Entry::new(version)?;
-        body.push(ItemDigest::new(3, [7; 32]));
-        body.push(ItemDigest::new(if same_item { 3 } else { 4 }, [7; 32]));
+        body.push(ItemDigest::new(3, [7; 32])).ok()?;
+        body.push(ItemDigest::new(if same_item { 3 } else { 4 }, [7; 32]))
+            .ok()?;
         let mut all = SealedEntry::new(body);
-        all.push(Pair::new(0, [9; 16]));
-        all.push(Pair::new(0, [9; 16]));
+        all.push(Pair::new(0, [9; 16])).ok()?;
+        all.push(Pair::new(0, [9; 16])).ok()?;
         Some(all)
     }
 
@@ -247,10 +228,7 @@ mod tests {
     fn one_entry_of_two_writes_takes_one_hundred_and_eight_bytes(
         rt: HostRuntime,
     ) -> Result<(), Fail> {
-        let Some(entry) = sealed(9, 5, 2, 0, 2) else {
-            assert!(rt; false);
-            return Ok(());
-        };
+        let entry = sealed(9, 5, 2, 0, 2).ok_or("no entry")?;
         let all = [entry];
         let mut out = [1; 112];
         let n = write_proof(9, 9, &all, 1, &mut out)?;

@@ -28,11 +28,11 @@ after_as_then : {A B : Type 0} (v : Result (Unit {0}) Fault) (x : A) (g : A → 
 after_as_then (Ok u) x g = refl
 after_as_then (Err f) x g = refl
 
-draft_exact : (d : ReadingDraft) → Exact (reading_item_format 2) (reading_item_fields 2 (read_item_drafted d)) (read_item_drafted d)
+pub draft_exact : (d : ReadingDraft) → Exact (reading_item_format 2) (reading_item_fields 2 (read_item_drafted d)) (read_item_drafted d)
 draft_exact d = read_item_exact 2 (read_item_drafted d)
 
 -- the marks of a draft are where its items will begin
-marks_well : (ds : List ReadingDraft) (q : List ItemAt × ℕ) → planned_run read_item_judged read_item_ends ds 2 ≡ Ok q → Planned (items 2) read_item_drafted draft_exact (λ x at. refl) read_item_number read_item_place read_item_item ds 2 q
+pub marks_well : (ds : List ReadingDraft) (q : List ItemAt × ℕ) → planned_run read_item_judged read_item_ends ds 2 ≡ Ok q → Planned (items 2) read_item_drafted draft_exact (λ x at. refl) read_item_number read_item_place read_item_item ds 2 q
 marks_well ds q e = planned_well (items 2) read_item_drafted draft_exact (λ x at. refl) read_item_number read_item_place read_item_item (λ c at j. (refl, refl)) ds 2 q e
 
 module _ (ds : List ReadingDraft) (room : ℕ) where

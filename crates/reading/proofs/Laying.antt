@@ -1,5 +1,5 @@
 -- How the parts of a reading's layout come together.
-use Rattle.std.proofs.Common.{◌≡◌, ℕ, ◌≤◌, leb, List, length, Ok, Result, sym, ap, ◌∙◌}
+use Rattle.std.proofs.Common.{◌≡◌, ℕ, ◌≤◌, leb, List, length, Ok, Result, sym, ◌∙◌}
 use Rattle.std.proofs.lemmas.Bool.{le-leb}
 use Rattle.fault.specs.declared.Fault.{Fault}
 use Rattle.fault.specs.declared.Layer.TheVariants.{Frame}
@@ -13,17 +13,16 @@ use Rattle.reading.specs.Marks.{read_item_stands, read_item_ends}
 use Rattle.reading.specs.Plans.{Marks, count_of, with_items, with_end, laid}
 use Rattle.reading.specs.Drafts.{read_item_judged, count_judged, plan_items, plan_draft}
 
-pub together : (w : ℕ) (bs : List ℕ) (n : ℕ) (rs : List ItemAt) (e m : ℕ)
+pub together : (w : ℕ) (bs : List ℕ) (n : ℕ) (rs : List ItemAt) (e : ℕ)
     → Ok n ≡ count_of bs
-    → m ≡ n
-    → Ok (rs, e) ≡ run (read_item_stands w) read_item_ends bs m 2
+    → Ok (rs, e) ≡ run (read_item_stands w) read_item_ends bs n 2
     → length bs ≤ e
     → Ok (record { count = n; items = rs; end = e }) ≡ laid w bs
-together w bs n rs e m count same items short =
+together w bs n rs e count items short =
     let found : Marks = record { count = n; items = rs; end = e } in
     sym
     (then_ok (count_of bs) (with_items w bs) n (sym count)
-    ∙ then_ok (run (read_item_stands w) read_item_ends bs n 2) (with_end bs n) (rs, e) (ap (λ k. run (read_item_stands w) read_item_ends bs k 2) (sym same) ∙ sym items)
+    ∙ then_ok (run (read_item_stands w) read_item_ends bs n 2) (with_end bs n) (rs, e) (sym items)
     ∙ pass (leb (length bs) e) (fault Malformed Frame e) (Ok found) (le-leb (length bs) e short))
 
 pub draft_together : (ds : List ReadingDraft) (n : ℕ) (rs : List ItemAt) (e : ℕ)

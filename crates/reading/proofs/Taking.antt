@@ -1,9 +1,7 @@
 -- The reader's stages are what rule 1 and then the other rule answer.
-use Rattle.std.proofs.Common.{◌≡◌, ℕ, zero, suc, ◌+◌, ◌<◌, ◌≤◌, Bool, true, cond, ◌&&◌, ltb, leb, List, [], ◌∷◌, map, length, get_or, take, Some, None, Ok, Err, Result, sym, refl, ap, ◌∙◌, subst, inl, inr, arith}
-use Rattle.std.specs.List.{slice_get, AllByRecursion}
-use Rattle.std.proofs.lemmas.Option.{slice_get-get_or, slice_get_past}
-use Rattle.std.proofs.lemmas.List.{length-map, get_or-map, get_or-take}
-use Rattle.std.proofs.lemmas.Bool.{cases_lt, lt-ltb, le-ltb, le-leb, and_from}
+use Rattle.std.proofs.Common.{◌≡◌, ℕ, ◌+◌, ◌≤◌, cond, leb, List, map, length, Some, None, Ok, Err, Result, sym, refl, ap, ◌∙◌, subst, arith}
+use Rattle.std.specs.List.{AllByRecursion}
+use Rattle.std.proofs.lemmas.Bool.{le-leb, and_from}
 use Rattle.std.proofs.lemmas.Bool.Decides.{nat_tests}
 use Rattle.fault.specs.declared.Fault.{Fault}
 use Rattle.fault.specs.declared.Layer.TheVariants.{Frame}
@@ -23,6 +21,7 @@ use Rattle.reading.specs.declared.mark.ItemAt.{ItemAt}
 use Rattle.reading.specs.Bodies.{ReadingItemBody, ReadingBody, reading_item_format, reading_format, reading_rules, reading_of, read_item_item}
 use Rattle.reading.specs.Orders.{item_spots, Orderly}
 use Rattle.reading.specs.Marks.{read_item_stands, read_item_ends, read_item_body, read_item_number, read_item_place}
+use Rattle.reading.specs.Readings.{item_in, item_view}
 use Rattle.reading.specs.Plans.{count_format, count_of, Marks, with_end, with_items, laid, ordered, body_of}
 use Rattle.reading.proofs.Records.{items}
 use Rattle.reading.proofs.Readings.{behind-items, behind-count}
@@ -123,39 +122,14 @@ module _ (w : ℕ) (bs : List ℕ) where
     taken m u e o = stages ∙ then_ok (laid w bs) (λ x. after (ordered x) (Ok (body_of w bs x))) m e ∙ ap (λ r. after r (Ok (body_of w bs m))) o
 
     -- each item lies in the frame
-    pub inside : (m : Marks) → LaidOut m → AllByRecursion (λ r. (leb (r.place + (w + 2)) r.after && leb r.after (length bs)) ≡ true) m.items
+    pub inside : (m : Marks) → LaidOut m → AllByRecursion (λ r. (r.place + (w + 2) ≤ r.after) × (r.after ≤ length bs)) m.items
     inside m o =
-        subst (λ x. AllByRecursion (λ r. (leb (r.place + (w + 2)) r.after && leb r.after (length bs)) ≡ true) x.items) o.is
-        (each (items w) bs all (λ r. (leb (r.place + (w + 2)) r.after && leb r.after (length bs)) ≡ true)
-        (λ at b e s. and_from (leb (at + (w + 2)) e) (leb e (length bs)) (le-leb (at + (w + 2)) e (wide at b e s.is)) (le-leb e (length bs) s.inside))
-        m.count 2 o.p (head_long m.count o.head) o.items-run)
+        subst (λ x. AllByRecursion (λ r. (r.place + (w + 2) ≤ r.after) × (r.after ≤ length bs)) x.items) o.is
+        (each (items w) bs all (λ r. (r.place + (w + 2) ≤ r.after) × (r.after ≤ length bs)) (λ at b e s. (wide at b e s.is, s.inside)) m.count 2 o.p (head_long m.count o.head) o.items-run)
       where
         wide : (at : ℕ) (b : ReadingItemBody) (e : ℕ) → walk Frame (reading_item_format w) both bs at ≡ Ok (b, e) → at + (w + 2) ≤ e
         wide at b e h = grind (arith, nat_tests)
 
-at_index : {X : Type 0} (P : X → Type 0) (xs : List X) (i : ℕ) (d : X) → AllByRecursion P xs → i < length xs → P (get_or xs i d)
-at_index P [] i d h l = absurd (omega arith)
-at_index P (x ∷ xs) zero d h l = h.0
-at_index P (x ∷ xs) (suc i) d h l = at_index P xs i d h.1 (omega arith)
-
--- element i of the first n of a list, seen through a view, or nothing
-pub viewed : {X Y : Type 0} (view : X → Y) (rs : List X) (d : X) (n cap i : ℕ) (ok : X → Bool) → n ≤ cap → length (take n rs) ≡ n → AllByRecursion (λ x. ok x ≡ true) (take n rs)
-    → cond (ltb i n && (ltb i cap && ok (get_or rs i d))) (Some (view (get_or rs i d))) None ≡ slice_get (map view (take n rs)) i
-viewed {X} {Y} view rs d n cap i ok few long all = elim (cases_lt i n) [ inl h ↦ inside_it h | inr h ↦ outside h ]
-  where
-    inside_it : i < n → cond (ltb i n && (ltb i cap && ok (get_or rs i d))) (Some (view (get_or rs i d))) None ≡ slice_get (map view (take n rs)) i
-    inside_it h =
-        let at : i < length (take n rs) = omega arith in
-        let far : i < length (map view (take n rs)) = omega (arith, length-map (take n rs) view) in
-        let same = get_or-take n rs i d h in
-        let fine = subst (λ x. ok x ≡ true) same (at_index (λ x. ok x ≡ true) (take n rs) i d all at) in
-        let x = lt-ltb i n h in
-        let y = lt-ltb i cap (omega arith) in
-        (λ j. cond (x j && (y j && fine j)) (Some (view (get_or rs i d))) None)
-        ∙ sym (slice_get-get_or (map view (take n rs)) i (view d) far ∙ ap Some (get_or-map view (take n rs) i d (view d) at ∙ ap view same))
-
-    outside : n ≤ i → cond (ltb i n && (ltb i cap && ok (get_or rs i d))) (Some (view (get_or rs i d))) None ≡ slice_get (map view (take n rs)) i
-    outside h =
-        let x = le-ltb i n h in
-        (λ j. cond (x j && (ltb i cap && ok (get_or rs i d))) (Some (view (get_or rs i d))) None)
-        ∙ sym (slice_get_past (map view (take n rs)) i (omega (arith, length-map (take n rs) view)))
+-- an item that lies in the frame is found there
+pub item_found : (bs : List ℕ) (r : ItemAt) → (r.place + 4 ≤ r.after) × (r.after ≤ length bs) → item_in bs r ≡ Some (item_view bs r)
+item_found bs r h = ap (λ b. cond b (Some (item_view bs r)) None) (and_from (leb (r.place + 4) r.after) (leb r.after (length bs)) (le-leb (r.place + 4) r.after h.0) (le-leb r.after (length bs) h.1))

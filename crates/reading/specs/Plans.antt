@@ -1,9 +1,10 @@
 -- How a reading is laid out in its frame: how many items, their marks, and where they end.
-use Rattle.std.specs.Prelude.{ℕ, List, map, length, take, None, Ok, Err, Result, nat_le}
+use Rattle.std.specs.Prelude.{ℕ, List, map, length, None, Ok, Err, Result, nat_le}
 use Rattle.fault.specs.declared.Fault.{Fault}
 use Rattle.fault.specs.declared.Layer.TheVariants.{Frame}
 use Rattle.fault.specs.declared.Cause.TheVariants.{Malformed}
 use Rattle.fault.specs.Codes.{fault}
+use Rattle.inline_vec.specs.Lists.{items}
 use Rattle.record.specs.Chains.{unless, and_then, tested}
 use Rattle.record.specs.Formats.{Format, number, done, is, within, walk}
 use Rattle.record.specs.Rules.{rising}
@@ -53,7 +54,7 @@ body_of w bs m = record { items = map (read_item_body w bs) m.items }
 
 -- the marks in a plan
 abbrev pub planned : Plan → Marks
-planned p = record { count = p.count; items = take p.count p.items; end = p.end }
+planned p = record { count = length (items p.items); items = items p.items; end = p.end }
 
 abbrev pub plan_seen : Result Plan Fault → Result Marks Fault
 plan_seen (Ok p) = Ok (planned p)

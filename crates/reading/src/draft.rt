@@ -4,39 +4,35 @@ ghost use Rattle.std.specs.List.{flat_map, AllByRecursion};
 ghost use Rattle.octets.specs.Parts.{over};
 ghost use Rattle.reading.specs.Bodies.{ReadingWrites, write_reading};
 ghost use Rattle.reading.specs.Drafts.{count_bytes, count_judged, draft_bytes, drafted, read_item_bytes, read_item_ready, plan_draft};
+ghost use Rattle.record.specs.Chains.{after};
 ghost use Rattle.reading.specs.Plans.{plan_seen};
 
-use crate::mark::ItemAt;
 use crate::part::ReadingDraft;
-use crate::plan::{KIND, Plan, check_order, no_items};
+use crate::plan::{Plan, check_order};
 use fault::{Cause, Fault, Layer};
+use record::kind::Kind;
 use record::malformed;
 use record::piece::{plan_all, put_all};
 
 // Rule 1 on the fields before the items.
-fn plan_count(n: usize) -> Result<u8, Fault>
-    ensures answer { result ≡ count_judged n }
-    ensures few { IfOk result (λ c. (c ≡ n) × (c ≤ 16)) }
+fn check_count(n: usize) -> Result<(), Fault>
+    ensures answer { after result (Ok n) ≡ count_judged n }
+    ensures few { IfOk result (λ _. n ≤ 16) }
 {
     if n < 1 || n > 16 {
         return Err(malformed(1));
     }
-    Ok(n as u8)
+    Ok(())
 }
 
 // Rule 1 on all items, and where they will stand.
 fn plan_draft(items: &[ReadingDraft]) -> Result<Plan, Fault>
     ensures answer { plan_seen result ≡ plan_draft items.now }
-    ensures few { IfOk result (λ p. (p.count ≤ 16) × (p.end ≤ 200000)) }
+    ensures few { IfOk result (λ p. p.end ≤ 200000) }
 {
-    let count = plan_count(items.len())?;
-    let mut marks = no_items();
-    let end = plan_all(items, 2, &mut marks[0..count as usize])?;
-    Ok(Plan {
-        count,
-        items: marks,
-        end,
-    })
+    check_count(items.len())?;
+    let (items, end) = plan_all(items, 2)?;
+    Ok(Plan { items, end })
 }
 
 // The fields before the items.
@@ -44,7 +40,7 @@ fn put_head(count: u8, out: &mut [u8])
     requires { 2 ≤ length out.old }
     ensures { out.new ≡ over (count_bytes count) out.old }
 {
-    out[0] = KIND;
+    out[0] = Kind::Reading as u8;
     out[1] = count;
 }
 
@@ -67,11 +63,7 @@ pub fn write_reading(items: &[ReadingDraft], out: &mut [u8]) -> Result<usize, Fa
     let plan = plan_draft(items)?;
     check_order(&plan)?;
     if out.len() < plan.end {
-        return Err(Fault {
-            cause: Cause::NoRoom,
-            layer: Layer::Frame,
-            place: 0,
-        });
+        return Err(Cause::NoRoom.at(Layer::Frame, 0));
     }
     put_draft(items, out);
     Ok(plan.end)

@@ -1,21 +1,23 @@
 // Readings: what a board holds under some items, read in place and written into a caller's buffer.
 #![tactic(auto)]
 
-ghost use Rattle.std.specs.Prelude.{◌≡◌, IfOk};
+ghost use Rattle.std.specs.Prelude.{◌≡◌, ℕ, List, length, IfOk};
 ghost use Rattle.record.specs.Refusals.{InRange};
-ghost use Rattle.reading.specs.Bodies.{ReadingBody, ReadingReads, reading_of, reading_format};
+ghost use Rattle.reading.specs.Bodies.{ReadingBody, ReadingItemBody, ReadingReads, reading_of, reading_format};
 ghost use Rattle.reading.specs.Orders.{Orderly};
-ghost use Rattle.reading.specs.Readings.{Found, item_of, item_seen, seen};
+ghost use Rattle.reading.specs.Plans.{planned};
+ghost use Rattle.reading.specs.Readings.{Found, ItemsFound, item_in, item_of, item_seen, item_shown, item_views, items_left, seen};
 
 pub mod draft;
 pub mod mark;
 pub mod part;
 pub mod plan;
 
-use crate::mark::VALUE_AT;
+use crate::mark::{ItemAt, VALUE_AT};
 use crate::plan::{Plan, check_order, lay_out};
 use fault::Fault;
 use octets::part;
+use record::records::{Records, Shows};
 
 // A reading as it stands in its frame: its list of items is a part of the frame.
 #[derive(Clone, Copy)]
@@ -32,6 +34,30 @@ pub struct ReadingItem<'a> {
     pub version: u32,
     pub value: &'a [u8],
     pub place: u32,
+}
+
+impl<'a> Shows<'a> for ItemAt {
+    type Shown = ReadingItem<'a>;
+
+    ghost Body = { ReadingItemBody × ℕ };
+
+    ghost body = { item_shown };
+
+    ghost view = { item_in };
+
+    fn show(self, frame: &'a [u8]) -> Option<ReadingItem<'a>> {
+        let at = self.place as usize + VALUE_AT;
+        let after = self.after as usize;
+        if at > after || after > frame.len() {
+            return None;
+        }
+        Some(ReadingItem {
+            item: self.item,
+            version: self.version,
+            value: part(frame, at, after - at),
+            place: self.place,
+        })
+    }
 }
 
 // Reads a reading in place.
@@ -54,9 +80,9 @@ pub fn read_reading<'a>(bytes: &'a [u8]) -> Result<Reading<'a>, Fault>
 impl<'a> Reading<'a> {
     // How many items there are.
     pub fn count(self) -> usize
-        ensures { result ≡ self.entry.plan.count }
+        ensures { result ≡ length (planned self.entry.plan).items }
     {
-        self.plan.count as usize
+        self.plan.items.len()
     }
 
     // Where the frame ends.
@@ -70,20 +96,13 @@ impl<'a> Reading<'a> {
     pub fn item(self, i: usize) -> Option<ReadingItem<'a>>
         ensures answer { item_seen result ≡ item_of self.entry i }
     {
-        if i >= self.count() || i >= 16 {
-            return None;
-        }
-        let mark = self.plan.items[i];
-        let at = mark.place as usize + VALUE_AT;
-        let after = mark.after as usize;
-        if at > after || after > self.frame.len() {
-            return None;
-        }
-        Some(ReadingItem {
-            item: mark.item,
-            version: mark.version,
-            value: part(self.frame, at, after - at),
-            place: mark.place,
-        })
+        self.plan.items.as_slice().get(i)?.show(self.frame)
+    }
+
+    // The items of the frame from the first.
+    pub fn items(&self) -> Records<'_, 'a, ItemAt>
+        ensures all { ItemsFound self.now → items_left result ≡ item_views self.now }
+    {
+        Records::new(self.frame, self.plan.items.as_slice())
     }
 }

@@ -13,7 +13,7 @@ pub(crate) const LENGTH_AT: usize = WIDTH + 1;
 pub(crate) const VALUE_AT: usize = LENGTH_AT + 1;
 
 // An item: its number, version, length and value; and the place behind it.
-#[derive(Clone, Copy)]
+#[derive(Clone, Copy, Default)]
 pub struct ItemAt {
     pub item: u8,
     pub version: u32,
@@ -21,13 +21,14 @@ pub struct ItemAt {
     pub after: u32,
 }
 
+// The same in each kind of mark but for the type: a trait reaches no field, so one impl for all would ask each for both fields again.
 impl Numbered for ItemAt {
     ghost number = { read_item_number };
 
     ghost place = { read_item_place };
 
     fn key(&self) -> u32 {
-        self.item as u32
+        u32::from(self.item)
     }
 
     fn offset(&self) -> u32 {

@@ -4,7 +4,7 @@ ghost use Rattle.reading.specs.Drafts.{read_item_bytes, read_item_judged, read_i
 
 use crate::mark::{ItemAt, LENGTH_AT, VALUE_AT};
 use fault::Fault;
-use octets::LIMIT;
+use octets::{LIMIT, put_number};
 use record::malformed;
 use record::piece::{Part, Piece};
 
@@ -28,8 +28,7 @@ impl<'a> Piece for ReadingDraft<'a> {
     fn put(self, out: &mut [u8]) {
         let n = self.value.len();
         out[0] = self.item;
-        out[1] = (self.version / 256) as u8;
-        out[2] = (self.version % 256) as u8;
+        put_number(self.version, &mut out[1..LENGTH_AT]);
         out[LENGTH_AT] = n as u8;
         out[VALUE_AT..VALUE_AT + n].copy_from_slice(self.value);
     }

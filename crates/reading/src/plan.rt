@@ -4,16 +4,14 @@ ghost use Rattle.reading.specs.Plans.{count_of, laid, ordered, plan_seen, planne
 
 use crate::mark::ItemAt;
 use fault::{Fault, Layer};
+use inline_vec::InlineVec;
+use record::kind::Kind;
 use record::{check_rise, malformed, read_all};
 
-// The first byte of a reading's frame.
-pub const KIND: u8 = 5;
-
-// The marks of the items, as many as counted, and where the frame ends.
+// The marks of the items, and where the frame ends.
 #[derive(Clone, Copy)]
 pub struct Plan {
-    pub count: u8,
-    pub items: [ItemAt; 16],
+    pub items: InlineVec<ItemAt, 16>,
     pub end: usize,
 }
 
@@ -26,7 +24,7 @@ fn read_count(frame: &[u8]) -> Result<u8, Fault>
     if n < 1 {
         return Err(malformed(0));
     }
-    if frame[0] != KIND {
+    if frame[0] != Kind::Reading as u8 {
         return Err(malformed(0));
     }
     if n < 2 {
@@ -39,35 +37,23 @@ fn read_count(frame: &[u8]) -> Result<u8, Fault>
     Ok(count)
 }
 
-// The places that the marks of items are put into.
-pub(crate) fn no_items() -> [ItemAt; 16] {
-    [ItemAt {
-        item: 0,
-        version: 0,
-        place: 0,
-        after: 0,
-    }; 16]
-}
-
 // Rule 1 over the whole frame.
 pub(crate) fn lay_out(frame: &[u8]) -> Result<Plan, Fault>
     ensures answer { plan_seen result ≡ laid 2 frame.now }
-    ensures few { IfOk result (λ p. (p.count ≤ 16) × (length frame.now ≡ p.end) × (2 ≤ p.end)) }
+    ensures few { IfOk result (λ p. (length frame.now ≡ p.end) × (2 ≤ p.end)) }
 {
     let count = read_count(frame)?;
-    let mut items = no_items();
-    let end = read_all(frame, 2, &mut items[0..count as usize])?;
+    let (items, end) = read_all(frame, 2, count as usize)?;
     let n = frame.len();
     if n > end {
         return Err(malformed(end as u32));
     }
-    Ok(Plan { count, items, end })
+    Ok(Plan { items, end })
 }
 
 // The rule behind rule 1.
 pub(crate) fn check_order(plan: &Plan) -> Result<(), Fault>
-    requires { plan.now.count ≤ 16 }
     ensures { result ≡ ordered (planned plan.now) }
 {
-    check_rise(Layer::Frame, &plan.items[0..plan.count as usize])
+    check_rise(Layer::Frame, plan.items.as_slice())
 }

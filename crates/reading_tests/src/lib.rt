@@ -6,24 +6,16 @@ mod tests {
     use fault::{Cause, Fault, Layer};
     use reading::draft::write_reading;
     use reading::part::ReadingDraft;
-    use reading::read_reading;
+    use reading::{Reading, read_reading};
     use std::test::Fail;
 
     // The items 2, 5, .. 47, each of version 258 plus its place among them, under one value.
     fn all_items<'a>(value: &'a [u8]) -> [ReadingDraft<'a>; 16] {
-        let mut items = [ReadingDraft {
-            item: 0,
-            version: 0,
+        std::array::from_fn(|i| ReadingDraft {
+            item: 3 * i as u8 + 2,
+            version: 258 + i as u32,
             value,
-        }; 16];
-        for i in 0..16usize {
-            items[i] = ReadingDraft {
-                item: 3 * i as u8 + 2,
-                version: 258 + i as u32,
-                value,
-            };
-        }
-        items
+        })
     }
 
     // Writes the largest reading: sixteen items of 32 bytes each.
@@ -39,16 +31,8 @@ mod tests {
         out
     }
 
-    // Whether a fault of a frame is the one expected.
-    fn is(fault: Fault, cause: Cause, place: u32) -> bool {
-        fault.cause == cause && fault.layer == Layer::Frame && fault.place == place
-    }
-
     fn refused(bytes: &[u8], cause: Cause, place: u32) -> bool {
-        match read_reading(bytes) {
-            Ok(_) => false,
-            Err(fault) => is(fault, cause, place),
-        }
+        read_reading(bytes).err() == Some(cause.at(Layer::Frame, place))
     }
 
     // The largest reading with one byte changed.
@@ -61,21 +45,15 @@ mod tests {
     }
 
     // Whether item i of a largest reading is the one that was written.
-    fn item_is(bytes: &[u8], i: usize, item: u8, version: u32, place: u32) -> bool {
-        match read_reading(bytes) {
-            Ok(read) => match read.item(i) {
-                Some(one) => {
-                    one.item == item
-                        && one.version == version
-                        && one.place == place
-                        && one.value.len() == 32
-                        && one.value[0] == 9
-                        && one.value[31] == 9
-                }
-                None => false,
-            },
-            Err(_) => false,
-        }
+    fn item_is(read: &Reading, i: usize, item: u8, version: u32, place: u32) -> bool {
+        read.item(i).is_some_and(|one| {
+            one.item == item
+                && one.version == version
+                && one.place == place
+                && one.value.len() == 32
+                && one.value[0] == 9
+                && one.value[31] == 9
+        })
     }
 
     #[test]
@@ -83,9 +61,9 @@ mod tests {
         let bytes = largest();
         let read = read_reading(&bytes)?;
         assert!(rt; read.count() == 16 && read.end() == 578 && read.items.len() == 576);
-        assert!(rt; item_is(&bytes, 0, 2, 258, 2));
-        assert!(rt; item_is(&bytes, 8, 26, 266, 290));
-        assert!(rt; item_is(&bytes, 15, 47, 273, 542));
+        assert!(rt; item_is(&read, 0, 2, 258, 2));
+        assert!(rt; item_is(&read, 8, 26, 266, 290));
+        assert!(rt; item_is(&read, 15, 47, 273, 542));
         assert!(rt; read.item(16).is_none());
         Ok(())
     }
@@ -110,15 +88,11 @@ mod tests {
 
     // Whether every shorter front of the bytes is refused at its length.
     fn no_front_is_a_reading(bytes: &[u8]) -> bool {
+        // The range is one of lengths, and a place has 32 bits, so the length is bounded first.
         if bytes.len() > 1000 {
             return false;
         }
-        for n in 0..bytes.len() {
-            if !refused(&bytes[0..n], Cause::Malformed, n as u32) {
-                return false;
-            }
-        }
-        true
+        (0..bytes.len()).all(|n| refused(&bytes[..n], Cause::Malformed, n as u32))
     }
 
     #[test]
@@ -191,11 +165,8 @@ mod tests {
             return false;
         }
         let items = one_changed(&long[0..32], i, item, version, &long[0..n]);
-        let as_due = match write_reading(&items, &mut out[0..room]) {
-            Ok(_) => false,
-            Err(fault) => is(fault, cause, place),
-        };
-        as_due && out[0] == 7 && out[577] == 7
+        let written = write_reading(&items, &mut out[0..room]);
+        written == Err(cause.at(Layer::Frame, place)) && out[0] == 7 && out[577] == 7
     }
 
     #[test]
@@ -236,14 +207,9 @@ mod tests {
             value: &[],
         }; 17];
         let mut out = [7; 4];
-        let none = match write_reading(&many[0..0], &mut out) {
-            Ok(_) => false,
-            Err(fault) => is(fault, Cause::Malformed, 1),
-        };
-        let seventeen = match write_reading(&many, &mut out) {
-            Ok(_) => false,
-            Err(fault) => is(fault, Cause::Malformed, 1),
-        };
-        assert!(rt; none && seventeen && out == [7; 4]);
+        let refused = Err(Cause::Malformed.at(Layer::Frame, 1));
+        assert!(rt; write_reading(&many[0..0], &mut out) == refused);
+        assert!(rt; write_reading(&many, &mut out) == refused);
+        assert!(rt; out == [7; 4]);
     }
 }

@@ -7,6 +7,7 @@ pub mod Codings
 pub mod Judging
 pub mod Keeping
 pub mod Runs
+pub mod Shown
 pub mod Tables
 pub mod Puts
 pub mod Marking

@@ -1,3 +1,4 @@
+pub mod Kinds
 pub mod Chains
 pub mod Formats
 pub mod Refusals
@@ -7,3 +8,4 @@ pub mod Writing
 pub mod Promises
 pub mod Checked
 pub mod Runs
+pub mod Shown

@@ -1,5 +1,6 @@
 -- The rules behind rule 1, as tables over records with a number and a place.
-use Rattle.std.specs.Prelude.{ℕ, ◌+◌, ◌*◌, Bool, true, false, ◌||◌, List, [], ◌∷◌, length, Some, None, Option, ◌==◌, nat_lt}
+use Rattle.std.specs.Prelude.{ℕ, ◌+◌, ◌*◌, Bool, true, List, [], ◌∷◌, length, Some, None, Option, ◌==◌, nat_lt}
+use Rattle.std.specs.List.{list_any}
 use Rattle.fault.specs.declared.Fault.{Fault}
 use Rattle.fault.specs.declared.Layer.{Layer}
 use Rattle.fault.specs.declared.Cause.TheVariants.{NotRising, Unread, NotMember}
@@ -28,8 +29,7 @@ rising l last (s ∷ ss) = (above last s.number, fault NotRising l s.place) ∷ 
 
 -- a number is among others
 abbrev pub among : ℕ → List ℕ → Bool
-among n [] = false
-among n (m ∷ ms) = m == n || among n ms
+among n ms = list_any (λ m. m == n) ms
 
 -- rule 4: each number is among those that were read
 abbrev pub covered : Layer → List ℕ → List Spot → List (Bool × Fault)

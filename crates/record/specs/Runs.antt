@@ -1,6 +1,8 @@
 -- Records that stand one behind the other in a frame, as marks of where they stand.
 use Rattle.std.specs.Prelude.{ℕ, zero, suc, List, [], ◌∷◌, ◌++◌, Ok, Err, Result}
 use Rattle.fault.specs.declared.Fault.{Fault}
+use Rattle.inline_vec.specs.Lists.{items}
+use Rattle.inline_vec.specs.declared.InlineVec.{InlineVec}
 use Rattle.record.specs.Chains.{and_then}
 use Rattle.record.specs.Rules.{Spot}
 
@@ -18,10 +20,10 @@ abbrev pub run : {R : Type 0} → (List ℕ → ℕ → Result R Fault) → (R �
 run stands ends bs zero at = Ok ([], at)
 run stands ends bs (suc n) at = and_then (stands bs at) (λ r. behind (r ∷ []) (run stands ends bs n (ends r)))
 
--- what a call answers that fills a list with marks
-abbrev pub filling : {R : Type 0} → Result ℕ Fault → List R → Run R
-filling (Ok e) rs = Ok (rs, e)
-filling (Err f) rs = Err f
+-- what a call answers that marks records
+abbrev pub marked : {R : Type 0} {n : _} → Result (InlineVec R n × ℕ) Fault → Run R
+marked (Ok p) = Ok (items p.0, p.1)
+marked (Err f) = Err f
 
 -- a mark's number and place
 abbrev pub spot_of : {R : Type 0} → (R → ℕ) → (R → ℕ) → R → Spot

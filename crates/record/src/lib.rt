@@ -1,7 +1,7 @@
 // What all frames share: records that stand one behind the other, the rules on their numbers, and pieces that are written one behind the other.
 #![tactic(auto)]
 
-ghost use Rattle.std.specs.Prelude.{◌≡◌, ℕ, ◌+◌, ◌*◌, ◌<◌, ◌≤◌, List, map, length, IfOk, None, Ok, Result};
+ghost use Rattle.std.specs.Prelude.{◌≡◌, ℕ, ◌+◌, ◌*◌, ◌<◌, ◌≤◌, min, List, map, length, IfOk, None, Ok, Result};
 ghost use Rattle.fault.specs.Codes.{fault};
 ghost use Rattle.fault.specs.declared.Cause.TheVariants.{Malformed};
 ghost use Rattle.fault.specs.declared.Fault.{Fault};
@@ -9,21 +9,20 @@ ghost use Rattle.fault.specs.declared.Layer.TheVariants.{Frame};
 ghost use Rattle.record.specs.Chains.{tested};
 ghost use Rattle.record.specs.Orders.{CoveredSays, RisingSays};
 ghost use Rattle.record.specs.Rules.{above, among, covered, rising};
-ghost use Rattle.record.specs.Runs.{filling, run, spotted};
+ghost use Rattle.record.specs.Runs.{marked, run, spotted};
 
+pub mod kind;
 pub mod piece;
+pub mod records;
 
 use fault::{Cause, Fault, Layer};
+use inline_vec::InlineVec;
 
 // A field of a frame that is out of range or not wholly there, or a byte too many.
 pub fn malformed(place: u32) -> Fault
     ensures { result ≡ fault Malformed Frame place }
 {
-    Fault {
-        cause: Cause::Malformed,
-        layer: Layer::Frame,
-        place,
-    }
+    Cause::Malformed.at(Layer::Frame, place)
 }
 
 // A plain record that carries a number, and where it begins in its frame.
@@ -58,29 +57,32 @@ pub trait Record: Numbered {
     ghost narrow: { (bs : List ℕ) (at : ℕ) (r : Self) → stands bs at ≡ Ok r → (at ≤ ends r) × (ends r ≤ at + 8192) };
 }
 
-// Fills `out` with the records that stand one behind the other, and answers where they end.
-pub fn read_all<R: Record>(frame: &[u8], start: usize, out: &mut [R]) -> Result<usize, Fault>
-    requires { start + 8192 * length out.old < 16777216 }
-    ensures near { IfOk result (λ e. (start ≤ e) × (e ≤ start + 8192 * length out.old)) }
-    ensures all { filling result out.new ≡ run R.Record.stands R.Record.ends frame.now (length out.old) start }
+// Marks records that stand one behind the other, at most as many as fit, and answers where they end.
+pub fn read_all<R: Record + Default, const N: usize>(
+    frame: &[u8],
+    start: usize,
+    count: usize,
+) -> Result<(InlineVec<R, N>, usize), Fault>
+    requires { start + 8192 * count < 16777216 }
+    ensures near { IfOk result (λ p. (start ≤ p.1) × (p.1 ≤ start + 8192 * count)) }
+    ensures all { marked result ≡ run R.Record.stands R.Record.ends frame.now (min count N) start }
 {
+    let most = count.min(N);
+    let mut marks = InlineVec::new(R::default());
     let mut at = start;
-    for i in 0..out.len() {
-        let record = R::read_at(frame, at)?;
-        at = record.end();
-        out[i] = record;
+    for _ in 0..most {
+        let mark = R::read_at(frame, at)?;
+        at = mark.end();
+        let _ = marks.push(mark);
     }
-    Ok(at)
+    Ok((marks, at))
 }
 
 // Whether a number is above the last one, if there was one.
 pub fn is_above(last: Option<u32>, key: u32) -> bool
     ensures { result ≡ above last key }
 {
-    match last {
-        Some(low) => low < key,
-        None => true,
-    }
+    last.is_none_or(|low| low < key)
 }
 
 // Refuses the first record whose number is not above that of the one before.
@@ -91,11 +93,7 @@ pub fn check_rise<R: Numbered>(layer: Layer, records: &[R]) -> Result<(), Fault>
     let mut last = None;
     for r in records {
         if !is_above(last, r.key()) {
-            return Err(Fault {
-                cause: Cause::NotRising,
-                layer,
-                place: r.offset(),
-            });
+            return Err(Cause::NotRising.at(layer, r.offset()));
         }
         last = Some(r.key());
     }
@@ -106,12 +104,7 @@ pub fn check_rise<R: Numbered>(layer: Layer, records: &[R]) -> Result<(), Fault>
 pub fn has_key<R: Numbered>(records: &[R], key: u32) -> bool
     ensures { result ≡ among key (map R.Numbered.number records.now) }
 {
-    for r in records {
-        if r.key() == key {
-            return true;
-        }
-    }
-    false
+    records.iter().map(|r| r.key()).any(|k| k == key)
 }
 
 // Refuses the first record of `asked` whose number none of `known` has.
@@ -125,11 +118,7 @@ pub fn check_covered<R: Numbered, W: Numbered>(
 {
     for w in asked {
         if !has_key(known, w.key()) {
-            return Err(Fault {
-                cause: Cause::Unread,
-                layer,
-                place: w.offset(),
-            });
+            return Err(Cause::Unread.at(layer, w.offset()));
         }
     }
     Ok(())

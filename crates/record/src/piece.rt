@@ -1,12 +1,13 @@
 // Pieces that are written one behind the other, and the records that a reader finds there.
-ghost use Rattle.std.specs.Prelude.{◌≡◌, ℕ, ◌+◌, ◌*◌, ◌<◌, ◌≤◌, List, length, IfOk, Result};
+ghost use Rattle.std.specs.Prelude.{◌≡◌, ℕ, ◌+◌, ◌*◌, ◌<◌, ◌≤◌, List, length, take, IfOk, Result};
 ghost use Rattle.std.specs.List.{flat_map, AllByRecursion};
 ghost use Rattle.fault.specs.declared.Fault.{Fault};
 ghost use Rattle.octets.specs.Parts.{over};
-ghost use Rattle.record.specs.Runs.{filling, planned_run};
+ghost use Rattle.record.specs.Runs.{marked, planned_run};
 
 use crate::Record;
 use fault::Fault;
+use inline_vec::InlineVec;
 
 // What is written as bytes, one piece behind the other.
 pub trait Piece: Copy {
@@ -30,6 +31,7 @@ pub fn put_all<P: Piece>(pieces: &[P], out: &mut [u8]) -> usize
     ensures count { result ≡ length (flat_map P.Piece.bytes pieces.now) }
     ensures bytes { out.new ≡ over (flat_map P.Piece.bytes pieces.now) out.old }
 {
+    // Where a piece stands hangs on the sizes of all before it.
     let mut at = 0;
     for p in pieces {
         p.put(&mut out[at..]);
@@ -51,17 +53,24 @@ pub trait Part: Piece {
         ensures answer { result ≡ judged self at };
 }
 
-// Fills `out` with the records that a reader finds where the parts are written.
-pub fn plan_all<P: Part>(parts: &[P], start: usize, out: &mut [P::Mark]) -> Result<usize, Fault>
-    requires { (start + 8192 * length parts.now < 16777216) × (length parts.now ≡ length out.old) }
-    ensures near { IfOk result (λ e. e ≤ start + 8192 * length parts.now) }
-    ensures all { filling result out.new ≡ planned_run P.Part.judged P.Mark.Record.ends parts.now start }
+// The marks that a reader finds where the parts are written, at most as many as fit, and where the parts end.
+pub fn plan_all<P: Part, const N: usize>(
+    parts: &[P],
+    start: usize,
+) -> Result<(InlineVec<P::Mark, N>, usize), Fault>
+where
+    P::Mark: Default,
+    requires { start + 8192 * length parts.now < 16777216 }
+    ensures near { IfOk result (λ p. p.1 ≤ start + 8192 * length parts.now) }
+    ensures all { marked result ≡ planned_run P.Part.judged P.Mark.Record.ends (take N parts.now) start }
 {
+    let first = &parts[..parts.len().min(N)];
+    let mut marks = InlineVec::new(P::Mark::default());
     let mut at = start;
-    for i in 0..parts.len() {
-        let mark = parts[i].mark_at(at)?;
+    for part in first {
+        let mark = part.mark_at(at)?;
         at = mark.end();
-        out[i] = mark;
+        let _ = marks.push(mark);
     }
-    Ok(at)
+    Ok((marks, at))
 }

@@ -1,5 +1,5 @@
 -- How the parts of a request's layout come together.
-use Rattle.std.proofs.Common.{◌≡◌, ℕ, ◌+◌, ◌≤◌, leb, List, length, Ok, Result, sym, ap, ◌∙◌}
+use Rattle.std.proofs.Common.{◌≡◌, ℕ, ◌+◌, ◌≤◌, leb, List, length, Ok, Result, sym, ◌∙◌}
 use Rattle.std.proofs.lemmas.Bool.{le-leb}
 use Rattle.fault.specs.declared.Fault.{Fault}
 use Rattle.fault.specs.declared.Layer.TheVariants.{Frame}
@@ -16,21 +16,19 @@ use Rattle.request.specs.Marks.{read_stands, read_ends, write_stands, write_ends
 use Rattle.request.specs.Drafts.{read_judged, write_judged, head_judged, plan_writes, plan_reads, plan_draft}
 use Rattle.request.specs.Plans.{Marks, head_of, with_reads, with_writes, with_tag, laid}
 
-pub together : (w : ℕ) (bs : List ℕ) (h : Head) (rs : List ReadAt) (ws : List WriteAt) (e t n m : ℕ)
+pub together : (w : ℕ) (bs : List ℕ) (h : Head) (rs : List ReadAt) (ws : List WriteAt) (e t : ℕ)
     → Ok h ≡ head_of w bs
-    → n ≡ h.reads
-    → Ok (rs, e) ≡ run (read_stands w) (read_ends w) bs n (reads_at w)
-    → m ≡ h.writes
-    → Ok (ws, t) ≡ run write_stands write_ends bs m e
+    → Ok (rs, e) ≡ run (read_stands w) (read_ends w) bs h.reads (reads_at w)
+    → Ok (ws, t) ≡ run write_stands write_ends bs h.writes e
     → t + 16 ≤ length bs
     → length bs ≤ t + 16
     → Ok (record { top = h; reads = rs; writes = ws; writes_at = e; tag_at = t }) ≡ laid w bs
-together w bs h rs ws e t n m top nr reads nw writes long short =
+together w bs h rs ws e t top reads writes long short =
     let found : Marks = record { top = h; reads = rs; writes = ws; writes_at = e; tag_at = t } in
     sym
     (then_ok (head_of w bs) (with_reads w bs) h (sym top)
-    ∙ then_ok (run (read_stands w) (read_ends w) bs h.reads (reads_at w)) (with_writes bs h) (rs, e) (ap (λ k. run (read_stands w) (read_ends w) bs k (reads_at w)) (sym nr) ∙ sym reads)
-    ∙ then_ok (run write_stands write_ends bs h.writes e) (with_tag bs h (rs, e)) (ws, t) (ap (λ k. run write_stands write_ends bs k e) (sym nw) ∙ sym writes)
+    ∙ then_ok (run (read_stands w) (read_ends w) bs h.reads (reads_at w)) (with_writes bs h) (rs, e) (sym reads)
+    ∙ then_ok (run write_stands write_ends bs h.writes e) (with_tag bs h (rs, e)) (ws, t) (sym writes)
     ∙ pass (leb (t + 16) (length bs)) (fault Malformed Frame (length bs)) _ (le-leb (t + 16) (length bs) long)
     ∙ pass (leb (length bs) (t + 16)) (fault Malformed Frame (t + 16)) (Ok found) (le-leb (length bs) (t + 16) short))
 

@@ -1,9 +1,7 @@
 -- The reader's stages are what rule 1 and then the other rules answer.
-use Rattle.std.proofs.Common.{◌≡◌, ℕ, zero, suc, ◌+◌, ◌<◌, ◌≤◌, Bool, true, cond, ◌&&◌, ltb, leb, List, [], ◌∷◌, ◌++◌, map, length, get_or, take, Some, None, Ok, Err, Option, Result, sym, refl, ap, ◌∙◌, subst, inl, inr, arith}
-use Rattle.std.specs.List.{slice_get, AllByRecursion}
-use Rattle.std.proofs.lemmas.Option.{slice_get-get_or, slice_get_past}
-use Rattle.std.proofs.lemmas.List.{length-map, get_or-map, get_or-take}
-use Rattle.std.proofs.lemmas.Bool.{cases_lt, lt-ltb, le-ltb, le-leb, and_from}
+use Rattle.std.proofs.Common.{◌≡◌, ℕ, ◌+◌, ◌≤◌, cond, leb, List, ◌++◌, map, length, Some, None, Ok, Err, Result, sym, refl, ap, ◌∙◌, subst, arith}
+use Rattle.std.specs.List.{AllByRecursion}
+use Rattle.std.proofs.lemmas.Bool.{le-leb, and_from}
 use Rattle.std.proofs.lemmas.Bool.Decides.{nat_tests}
 use Rattle.fault.specs.declared.Fault.{Fault}
 use Rattle.fault.specs.declared.Layer.TheVariants.{Frame}
@@ -23,6 +21,7 @@ use Rattle.request.specs.declared.plan.Head.{Head}
 use Rattle.request.specs.Bodies.{RequestBody, read_format, write_format, request_format, write_fields, request_rules, read_request, reads_at, read_item, write_item, read_spots, write_spots}
 use Rattle.request.specs.Marks.{read_stands, read_ends, read_body, read_number, read_place, write_stands, write_ends, write_body, write_number, write_place}
 use Rattle.request.specs.Plans.{head_format, head_of, Marks, with_tag, with_writes, with_reads, laid, ordered, body_of}
+use Rattle.request.specs.Requests.{read_in, read_view, write_in, write_view}
 use Rattle.request.proofs.Records.{reads, writes}
 use Rattle.request.proofs.Requests.{behind-writes, behind-reads, behind_head}
 
@@ -162,42 +161,9 @@ module _ (w : ℕ) (bs : List ℕ) where
       (λ at b e s. (omega (arith, s.to), s.inside))
       m.top.writes o.p.1 o.q r.inside o.writes-run)
 
-every_map : {X : Type 0} (P Q : X → Type 0) (xs : List X) → ((x : X) → P x → Q x) → AllByRecursion P xs → AllByRecursion Q xs
-every_map P Q [] f h = tt
-every_map P Q (x ∷ xs) f h = (f x h.0, every_map P Q xs f h.1)
+-- a read and a write that lie in the frame are found there
+pub read_found : (bs : List ℕ) (r : ReadAt) → r.place + 35 ≤ length bs → read_in bs r ≡ Some (read_view bs r)
+read_found bs r h = grind (arith, nat_tests)
 
-pub reads_pass : (n : ℕ) (rs : List ReadAt) → AllByRecursion (λ r. r.place + 35 ≤ n) rs → AllByRecursion (λ r. leb (r.place + 35) n ≡ true) rs
-reads_pass n rs h = every_map (λ r. r.place + 35 ≤ n) (λ r. leb (r.place + 35) n ≡ true) rs (λ r p. le-leb (r.place + 35) n p) h
-
-pub writes_pass : (n : ℕ) (rs : List WriteAt) → AllByRecursion (λ r. (r.place + 2 ≤ r.after) × (r.after ≤ n)) rs → AllByRecursion (λ r. (leb (r.place + 2) r.after && leb r.after n) ≡ true) rs
-writes_pass n rs h = every_map (λ r. (r.place + 2 ≤ r.after) × (r.after ≤ n)) (λ r. (leb (r.place + 2) r.after && leb r.after n) ≡ true) rs (λ r p. and_from (leb (r.place + 2) r.after) (leb r.after n) (le-leb (r.place + 2) r.after p.0) (le-leb r.after n p.1)) h
-
-pub at_index : {X : Type 0} (P : X → Type 0) (xs : List X) (i : ℕ) (d : X) → AllByRecursion P xs → i < length xs → P (get_or xs i d)
-at_index P [] i d h l = absurd (omega arith)
-at_index P (x ∷ xs) zero d h l = h.0
-at_index P (x ∷ xs) (suc i) d h l = at_index P xs i d h.1 (omega arith)
-
--- element i of the first n of a list, seen through a view, or nothing
-pub viewed : {X Y : Type 0} (view : X → Y) (rs : List X) (d : X) (n cap i : ℕ) (ok : X → Bool) → n ≤ cap → length (take n rs) ≡ n → AllByRecursion (λ x. ok x ≡ true) (take n rs)
-    → cond (ltb i n && (ltb i cap && ok (get_or rs i d))) (Some (view (get_or rs i d))) None ≡ slice_get (map view (take n rs)) i
-viewed {X} {Y} view rs d n cap i ok few long all = elim (cases_lt i n) [ inl h ↦ inside h | inr h ↦ outside h ]
-  where
-    answer : Bool → Option Y
-    answer b = cond b (Some (view (get_or rs i d))) None
-
-    inside : i < n → cond (ltb i n && (ltb i cap && ok (get_or rs i d))) (Some (view (get_or rs i d))) None ≡ slice_get (map view (take n rs)) i
-    inside h =
-        let at : i < length (take n rs) = omega arith in
-        let far : i < length (map view (take n rs)) = omega (arith, length-map (take n rs) view) in
-        let same = get_or-take n rs i d h in
-        let fine = subst (λ x. ok x ≡ true) same (at_index (λ x. ok x ≡ true) (take n rs) i d all at) in
-        let x = lt-ltb i n h in
-        let y = lt-ltb i cap (omega arith) in
-        (λ j. cond (x j && (y j && fine j)) (Some (view (get_or rs i d))) None)
-        ∙ sym (slice_get-get_or (map view (take n rs)) i (view d) far ∙ ap Some (get_or-map view (take n rs) i d (view d) at ∙ ap view same))
-
-    outside : n ≤ i → cond (ltb i n && (ltb i cap && ok (get_or rs i d))) (Some (view (get_or rs i d))) None ≡ slice_get (map view (take n rs)) i
-    outside h =
-        let x = le-ltb i n h in
-        (λ j. cond (x j && (ltb i cap && ok (get_or rs i d))) (Some (view (get_or rs i d))) None)
-        ∙ sym (slice_get_past (map view (take n rs)) i (omega (arith, length-map (take n rs) view)))
+pub write_found : (bs : List ℕ) (r : WriteAt) → (r.place + 2 ≤ r.after) × (r.after ≤ length bs) → write_in bs r ≡ Some (write_view bs r)
+write_found bs r h = ap (λ b. cond b (Some (write_view bs r)) None) (and_from (leb (r.place + 2) r.after) (leb r.after (length bs)) (le-leb (r.place + 2) r.after h.0) (le-leb r.after (length bs) h.1))

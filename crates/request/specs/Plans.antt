@@ -1,9 +1,10 @@
 -- How a request is laid out in its frame: its head, the marks of its reads and writes, and where its tag begins.
-use Rattle.std.specs.Prelude.{ℕ, ◌+◌, List, map, length, take, None, Ok, Err, Result, nat_le}
+use Rattle.std.specs.Prelude.{ℕ, ◌+◌, List, map, length, None, Ok, Err, Result, nat_le}
 use Rattle.fault.specs.declared.Fault.{Fault}
 use Rattle.fault.specs.declared.Layer.TheVariants.{Frame}
 use Rattle.fault.specs.declared.Cause.TheVariants.{Malformed}
 use Rattle.fault.specs.Codes.{fault}
+use Rattle.inline_vec.specs.Lists.{items}
 use Rattle.octets.specs.Parts.{part_at}
 use Rattle.record.specs.Chains.{unless, and_then, after, tested}
 use Rattle.record.specs.Formats.{Format, number, done, is, up_to, within, any, walk}
@@ -75,7 +76,7 @@ body_of w bs m = record {
 
 -- the marks in a plan
 abbrev pub planned : Plan → Marks
-planned p = record { top = p.top; reads = take p.top.reads p.reads; writes = take p.top.writes p.writes; writes_at = p.writes_at; tag_at = p.tag_at }
+planned p = record { top = p.top; reads = items p.reads; writes = items p.writes; writes_at = p.writes_at; tag_at = p.tag_at }
 
 abbrev pub plan_seen : Result Plan Fault → Result Marks Fault
 plan_seen (Ok p) = Ok (planned p)

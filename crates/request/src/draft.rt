@@ -10,9 +10,10 @@ ghost use Rattle.request.specs.Sizes.{KnownSizes, RequestSize, SizesOccur};
 
 use crate::item::{ReadItem, WriteItem};
 use crate::mark::{ReadAt, WriteAt};
-use crate::plan::{HEAD, Head, Plan, READS_AT, WRITES_AT, check_order, no_reads, no_writes};
+use crate::plan::{HEAD, Head, Plan, READS_AT, WRITES_AT, check_order};
 use fault::{Cause, Fault, Layer};
-use octets::{LIMIT, put_bytes};
+use octets::{LIMIT, put_bytes, put_number};
+use record::kind::Kind;
 use record::malformed;
 use record::piece::{plan_all, put_all};
 
@@ -26,26 +27,28 @@ pub struct Draft<'r, 'w, 'v> {
     pub tag: [u8; 16],
 }
 
-// Rule 1 on the fields before the reads.
-fn plan_head(client: u8, sequence: u32, reads: usize, writes: usize) -> Result<Head, Fault>
-    ensures answer { result ≡ head_judged client sequence reads writes }
-    ensures few { IfOk result (λ h. (h.reads ≡ reads) × (h.writes ≡ writes) × (h.reads ≤ 16) × (h.writes ≤ 8)) }
+// Rule 1 on the fields before the reads. The reader refuses the same values, but in a frame that may end before each of them.
+fn plan_head(draft: Draft) -> Result<Head, Fault>
+    ensures answer { result ≡ head_judged draft.entry.client draft.entry.sequence (length draft.entry.reads.now) (length draft.entry.writes.now) }
+    ensures few { IfOk result (λ h. (h.reads ≡ length draft.entry.reads.now) × (h.writes ≡ length draft.entry.writes.now) × (h.reads ≤ 16) × (h.writes ≤ 8)) }
 {
-    if client > 15 {
+    if draft.client > 15 {
         return Err(malformed(1));
     }
-    if sequence > LIMIT {
+    if draft.sequence > LIMIT {
         return Err(malformed(2));
     }
+    let reads = draft.reads.len();
     if reads > 16 {
         return Err(malformed(READS_AT as u32));
     }
+    let writes = draft.writes.len();
     if writes < 1 || writes > 8 {
         return Err(malformed(WRITES_AT as u32));
     }
     Ok(Head {
-        client,
-        sequence,
+        client: draft.client,
+        sequence: draft.sequence,
         reads: reads as u8,
         writes: writes as u8,
     })
@@ -57,16 +60,9 @@ fn plan_draft(draft: Draft) -> Result<Plan, Fault>
     ensures few { IfOk result (λ p. (p.top.reads ≤ 16) × (p.top.writes ≤ 8) × (p.tag_at ≤ 200000)) }
     ensures tag { length draft.entry.tag ≡ 16 }
 {
-    let top = plan_head(
-        draft.client,
-        draft.sequence,
-        draft.reads.len(),
-        draft.writes.len(),
-    )?;
-    let mut reads = no_reads();
-    let mut writes = no_writes();
-    let writes_at = plan_all(draft.reads, HEAD, &mut reads[0..top.reads as usize])?;
-    let tag_at = plan_all(draft.writes, writes_at, &mut writes[0..top.writes as usize])?;
+    let top = plan_head(draft)?;
+    let (reads, writes_at) = plan_all(draft.reads, HEAD)?;
+    let (writes, tag_at) = plan_all(draft.writes, writes_at)?;
     Ok(Plan {
         top,
         reads,
@@ -76,16 +72,16 @@ fn plan_draft(draft: Draft) -> Result<Plan, Fault>
     })
 }
 
-fn put_head(client: u8, sequence: u32, reads: u8, writes: u8, out: &mut [u8])
-    requires { (6 ≤ length out.old) × (sequence ≤ limit 2) }
-    ensures { out.new ≡ over (head_bytes client sequence reads writes) out.old }
+// The fields before the reads.
+fn put_head(top: Head, out: &mut [u8])
+    requires { (6 ≤ length out.old) × (top.sequence ≤ limit 2) }
+    ensures { out.new ≡ over (head_bytes top.client top.sequence top.reads top.writes) out.old }
 {
-    out[0] = 1;
-    out[1] = client;
-    out[2] = (sequence / 256) as u8;
-    out[3] = (sequence % 256) as u8;
-    out[READS_AT] = reads;
-    out[WRITES_AT] = writes;
+    out[0] = Kind::Request as u8;
+    out[1] = top.client;
+    put_number(top.sequence, &mut out[2..READS_AT]);
+    out[READS_AT] = top.reads;
+    out[WRITES_AT] = top.writes;
 }
 
 // Puts a draft to the front of a buffer, each part into the bytes behind the one before.
@@ -95,13 +91,13 @@ fn put_draft(draft: Draft, out: &mut [u8])
     requires room { 6 + length (flat_map read_bytes draft.reads.now) + length (flat_map write_bytes draft.writes.now) + 16 ≤ length out.old }
     ensures { out.new ≡ over (draft_bytes draft.entry) out.old }
 {
-    put_head(
-        draft.client,
-        draft.sequence,
-        draft.reads.len() as u8,
-        draft.writes.len() as u8,
-        out,
-    );
+    let top = Head {
+        client: draft.client,
+        sequence: draft.sequence,
+        reads: draft.reads.len() as u8,
+        writes: draft.writes.len() as u8,
+    };
+    put_head(top, out);
     let a = HEAD + put_all(draft.reads, &mut out[HEAD..]);
     let e = a + put_all(draft.writes, &mut out[a..]);
     put_bytes(&draft.tag, &mut out[e..]);
@@ -118,11 +114,7 @@ pub fn write_request(draft: Draft, out: &mut [u8]) -> Result<usize, Fault>
     check_order(&plan)?;
     let size = plan.tag_at + 16;
     if out.len() < size {
-        return Err(Fault {
-            cause: Cause::NoRoom,
-            layer: Layer::Frame,
-            place: 0,
-        });
+        return Err(Cause::NoRoom.at(Layer::Frame, 0));
     }
     put_draft(draft, out);
     Ok(size)

@@ -13,20 +13,21 @@ pub(crate) const DIGEST_AT: usize = WIDTH + 1;
 pub(crate) const READ: usize = DIGEST_AT + 32;
 
 // A read: item, version, digest.
-#[derive(Clone, Copy)]
+#[derive(Clone, Copy, Default)]
 pub struct ReadAt {
     pub item: u8,
     pub version: u32,
     pub place: u32,
 }
 
+// The same in each kind of mark but for the type: a trait reaches no field, so one impl for all would ask each for both fields again.
 impl Numbered for ReadAt {
     ghost number = { read_number };
 
     ghost place = { read_place };
 
     fn key(&self) -> u32 {
-        self.item as u32
+        u32::from(self.item)
     }
 
     fn offset(&self) -> u32 {
@@ -66,20 +67,21 @@ impl Record for ReadAt {
 }
 
 // A write: item, length, value; and the place behind it.
-#[derive(Clone, Copy)]
+#[derive(Clone, Copy, Default)]
 pub struct WriteAt {
     pub item: u8,
     pub place: u32,
     pub after: u32,
 }
 
+// The same in each kind of mark but for the type: a trait reaches no field, so one impl for all would ask each for both fields again.
 impl Numbered for WriteAt {
     ghost number = { write_number };
 
     ghost place = { write_place };
 
     fn key(&self) -> u32 {
-        self.item as u32
+        u32::from(self.item)
     }
 
     fn offset(&self) -> u32 {

@@ -5,7 +5,7 @@ ghost use Rattle.request.specs.Drafts.{read_bytes, read_judged, read_ready, writ
 use crate::item::{ReadItem, WriteItem};
 use crate::mark::{DIGEST_AT, READ, ReadAt, WriteAt};
 use fault::Fault;
-use octets::LIMIT;
+use octets::{LIMIT, put_number};
 use record::malformed;
 use record::piece::{Part, Piece};
 
@@ -20,8 +20,7 @@ impl Piece for ReadItem {
 
     fn put(self, out: &mut [u8]) {
         out[0] = self.item;
-        out[1] = (self.version / 256) as u8;
-        out[2] = (self.version % 256) as u8;
+        put_number(self.version, &mut out[1..DIGEST_AT]);
         out[DIGEST_AT..READ].copy_from_slice(&self.digest);
     }
 }

@@ -4,7 +4,9 @@ ghost use Rattle.request.specs.Plans.{head_of, laid, ordered, plan_seen, planned
 
 use crate::mark::{ReadAt, WriteAt};
 use fault::{Fault, Layer};
+use inline_vec::InlineVec;
 use octets::{WIDTH, number_at};
+use record::kind::Kind;
 use record::{check_covered, check_rise, malformed, read_all};
 
 // Where the counts of reads and writes stand, and where the reads begin.
@@ -14,6 +16,7 @@ pub(crate) const WRITES_AT: usize = READS_AT + 1;
 
 pub(crate) const HEAD: usize = WRITES_AT + 1;
 
+// The fields before the reads, as they stand in the frame: the counts are read before there is a list.
 #[derive(Clone, Copy)]
 pub struct Head {
     pub client: u8,
@@ -25,8 +28,8 @@ pub struct Head {
 #[derive(Clone, Copy)]
 pub struct Plan {
     pub top: Head,
-    pub reads: [ReadAt; 16],
-    pub writes: [WriteAt; 8],
+    pub reads: InlineVec<ReadAt, 16>,
+    pub writes: InlineVec<WriteAt, 8>,
     pub writes_at: usize,
     pub tag_at: usize,
 }
@@ -40,7 +43,7 @@ fn read_head(frame: &[u8]) -> Result<Head, Fault>
     if n < 1 {
         return Err(malformed(0));
     }
-    if frame[0] != 1 {
+    if frame[0] != Kind::Request as u8 {
         return Err(malformed(0));
     }
     if n < 2 {
@@ -72,33 +75,14 @@ fn read_head(frame: &[u8]) -> Result<Head, Fault>
     })
 }
 
-// The places that the marks of reads and writes are put into.
-pub(crate) fn no_reads() -> [ReadAt; 16] {
-    [ReadAt {
-        item: 0,
-        version: 0,
-        place: 0,
-    }; 16]
-}
-
-pub(crate) fn no_writes() -> [WriteAt; 8] {
-    [WriteAt {
-        item: 0,
-        place: 0,
-        after: 0,
-    }; 8]
-}
-
 // Rule 1 over the whole frame.
 pub(crate) fn lay_out(frame: &[u8]) -> Result<Plan, Fault>
     ensures answer { plan_seen result ≡ laid 2 frame.now }
     ensures few { IfOk result (λ p. (p.top.reads ≤ 16) × (p.top.writes ≤ 8) × (length frame.now ≡ p.tag_at + 16) × (6 ≤ p.writes_at) × (p.writes_at ≤ p.tag_at)) }
 {
     let top = read_head(frame)?;
-    let mut reads = no_reads();
-    let mut writes = no_writes();
-    let writes_at = read_all(frame, HEAD, &mut reads[0..top.reads as usize])?;
-    let tag_at = read_all(frame, writes_at, &mut writes[0..top.writes as usize])?;
+    let (reads, writes_at) = read_all(frame, HEAD, top.reads as usize)?;
+    let (writes, tag_at) = read_all(frame, writes_at, top.writes as usize)?;
     let n = frame.len();
     if n < tag_at + 16 {
         return Err(malformed(n as u32));
@@ -117,11 +101,10 @@ pub(crate) fn lay_out(frame: &[u8]) -> Result<Plan, Fault>
 
 // The rules behind rule 1.
 pub(crate) fn check_order(plan: &Plan) -> Result<(), Fault>
-    requires { (plan.now.top.reads ≤ 16) × (plan.now.top.writes ≤ 8) }
     ensures { result ≡ ordered (planned plan.now) }
 {
-    let reads = &plan.reads[0..plan.top.reads as usize];
-    let writes = &plan.writes[0..plan.top.writes as usize];
+    let reads = plan.reads.as_slice();
+    let writes = plan.writes.as_slice();
     check_rise(Layer::Frame, reads)?;
     check_rise(Layer::Frame, writes)?;
     check_covered(Layer::Frame, reads, writes)

@@ -12,7 +12,7 @@ use request::draft::{Draft, write_request};
 use request::item::{ReadItem, WriteItem};
 use seal::{Seal, client_signer};
 
-// A request that is to be sealed and written.
+// A request that is to be sealed and written: a draft without its tag. As a part of a draft it would put every field of each draft one level deeper.
 #[derive(Clone, Copy)]
 pub struct Unsealed<'r, 'w, 'v> {
     pub client: u8,

@@ -7,21 +7,13 @@ mod tests {
     use request::draft::{Draft, write_request};
     use request::item::{ReadItem, WriteItem};
     use request::read_request;
+    use sample_keys::sample_keys;
     use seal::Seal;
     use seal::mac::HmacSeal;
     use seal::sip::SipSeal;
     use sealed_request::{Unsealed, seal_request};
     use std::process::Abort;
     use std::test::Fail;
-
-    // Signer s has a key of bytes s.
-    fn keys() -> [[u8; 32]; 32] {
-        let mut all = [[0u8; 32]; 32];
-        for s in 0..32 {
-            all[s] = [s as u8; 32];
-        }
-        all
-    }
 
     // Seals a request: one read of item 5, and one write to an item.
     fn put_sealed<L: Seal>(seal: &L, client: u8, item: u8, out: &mut [u8]) -> Result<usize, Fault> {
@@ -102,13 +94,8 @@ mod tests {
         if room > 64 {
             return false;
         }
-        let as_due = match put_sealed(seal, client, item, &mut out[0..room]) {
-            Ok(_) => false,
-            Err(fault) => {
-                fault.cause == cause && fault.layer == Layer::Frame && fault.place == place
-            }
-        };
-        as_due && out == [7; 64]
+        let written = put_sealed(seal, client, item, &mut out[0..room]);
+        written == Err(cause.at(Layer::Frame, place)) && out == [7; 64]
     }
 
     fn refusals<L: Seal>(rt: &impl Abort, seal: &L) {
@@ -120,21 +107,20 @@ mod tests {
         assert!(rt; refused(seal, 3, 5, 0, Cause::NoRoom, 0));
     }
 
-    #[test]
-    fn a_tag_by_siphash(rt: HostRuntime) -> Result<(), Fail> {
-        let seal = SipSeal::new(keys());
-        tag_passes(&rt, &seal)?;
-        bytes_are_the_writers(&rt, &seal)?;
-        refusals(&rt, &seal);
+    fn sealed_by<L: Seal>(rt: &impl Abort, seal: &L) -> Result<(), Fail> {
+        tag_passes(rt, seal)?;
+        bytes_are_the_writers(rt, seal)?;
+        refusals(rt, seal);
         Ok(())
     }
 
     #[test]
+    fn a_tag_by_siphash(rt: HostRuntime) -> Result<(), Fail> {
+        sealed_by(&rt, &SipSeal::new(sample_keys()))
+    }
+
+    #[test]
     fn a_tag_by_hmac(rt: HostRuntime) -> Result<(), Fail> {
-        let seal = HmacSeal::new(keys());
-        tag_passes(&rt, &seal)?;
-        bytes_are_the_writers(&rt, &seal)?;
-        refusals(&rt, &seal);
-        Ok(())
+        sealed_by(&rt, &HmacSeal::new(sample_keys()))
     }
 }

@@ -7,11 +7,9 @@ ghost use Rattle.record.specs.Writing.{filled};
 ghost use Rattle.share.specs.Shares.{ShareReads, ShareWrites, drafted, held, read_share, seen, share_fields, write_share};
 
 use fault::{Cause, Fault, Layer};
-use octets::{LIMIT, number_at, part};
+use octets::{LIMIT, number_at, part, put_number};
+use record::kind::Kind;
 use record::malformed;
-
-// The first byte of a share's frame.
-pub const KIND: u8 = 2;
 
 // A share as it stands in its frame.
 #[derive(Clone, Copy)]
@@ -38,7 +36,7 @@ fn scan<'a>(bytes: &'a [u8], f: u8) -> Result<Share<'a>, Fault>
     if n < 1 {
         return Err(malformed(0));
     }
-    if bytes[0] != KIND {
+    if bytes[0] != Kind::Share as u8 {
         return Err(malformed(0));
     }
     if n < 4 {
@@ -55,12 +53,8 @@ fn scan<'a>(bytes: &'a [u8], f: u8) -> Result<Share<'a>, Fault>
         return Err(malformed(20));
     }
     let signer = bytes[1];
-    if signer as u32 >= 3 * f as u32 + 1 {
-        return Err(Fault {
-            cause: Cause::NotMember,
-            layer: Layer::Frame,
-            place: 1,
-        });
+    if u32::from(signer) >= 3 * u32::from(f) + 1 {
+        return Err(Cause::NotMember.at(Layer::Frame, 1));
     }
     Ok(Share {
         signer,
@@ -87,24 +81,15 @@ fn put(draft: ShareDraft, f: u8, out: &mut [u8]) -> Result<usize, Fault>
     if draft.version == 0 || draft.version > LIMIT {
         return Err(malformed(2));
     }
-    if draft.signer as u32 >= 3 * f as u32 + 1 {
-        return Err(Fault {
-            cause: Cause::NotMember,
-            layer: Layer::Frame,
-            place: 1,
-        });
+    if u32::from(draft.signer) >= 3 * u32::from(f) + 1 {
+        return Err(Cause::NotMember.at(Layer::Frame, 1));
     }
     if out.len() < 20 {
-        return Err(Fault {
-            cause: Cause::NoRoom,
-            layer: Layer::Frame,
-            place: 0,
-        });
+        return Err(Cause::NoRoom.at(Layer::Frame, 0));
     }
-    out[0] = KIND;
+    out[0] = Kind::Share as u8;
     out[1] = draft.signer;
-    out[2] = (draft.version / 256) as u8;
-    out[3] = (draft.version % 256) as u8;
+    put_number(draft.version, &mut out[2..4]);
     out[4..20].copy_from_slice(&draft.tag);
     Ok(20)
 }

@@ -1,13 +1,41 @@
 // The entries of a proof that is read in place, found from the front.
 ghost use Rattle.std.specs.Prelude.{◌≡◌, ℕ, ◌+◌, ◌≤◌, List, ◌++◌, length};
+ghost use Rattle.std.specs.Iterator.{at_most};
 ghost use Rattle.octets.specs.Numbers.{limit};
 ghost use Rattle.entry.specs.Bodies.{SealedBody, sealed_bytes};
 ghost use Rattle.proof.specs.Bodies.{ProofBody, SealedIn};
 ghost use Rattle.proof.specs.Parts.{FoundAt, Holds, Inside, PartHolds, There, entry_place};
+ghost use Rattle.proof.specs.Turns.{BeforeEntry, GivesEntry};
 
 use super::Proof;
 use crate::part::SealedPart;
 use octets::{number_at, part};
+
+// The entries of a proof from the front, where the first that is left begins, and how many are left.
+#[derive(Drop)]
+pub struct Entries<'a> {
+    proof: Proof<'a>,
+    at: usize,
+    left: u32,
+}
+
+impl<'a> Iterator for Entries<'a> {
+    type Item = SealedPart<'a>;
+
+    ghost next_gives = { GivesEntry };
+
+    ghost remaining = { λ s. at_most s.left };
+
+    fn next(&mut self) -> Option<SealedPart<'a>> {
+        if self.left == 0 {
+            return None;
+        }
+        let part = self.proof.sealed_at(self.at)?;
+        self.at += part.body.len() + part.pairs.len();
+        self.left -= 1;
+        Some(part)
+    }
+}
 
 impl<'a> Proof<'a> {
     // The lowest version.
@@ -43,35 +71,34 @@ impl<'a> Proof<'a> {
         if at > 1000000 || n < at + 3 {
             return None;
         }
-        let writes = self.frame[at + 2];
-        let body = 3 + 33 * writes as usize;
-        let tags = self.f as u32 + 1;
-        let pairs = 17 * tags as usize;
+        let body = 3 + 33 * self.frame[at + 2] as usize;
+        let pairs = 17 * (self.f as usize + 1);
         if n < at + body + pairs {
             return None;
         }
         Some(SealedPart {
             version: number_at(self.frame, at),
             place: at as u32,
-            writes,
-            tags,
             body: part(self.frame, at, body),
             pairs: part(self.frame, at + body, pairs),
         })
+    }
+
+    // The entries, behind the kind and the range.
+    pub fn entries(self) -> Entries<'a>
+        ensures { (f : ℕ) (b : ProofBody) → Holds f self.entry b → BeforeEntry f b 0 result }
+    {
+        Entries {
+            proof: self,
+            at: 5,
+            left: self.len(),
+        }
     }
 
     // Entry i of the proof, or none behind the last.
     pub fn entry(self, i: u32) -> Option<SealedPart<'a>>
         ensures { (f : ℕ) (b : ProofBody) → Holds f self.entry b → FoundAt (PartHolds f (entry_place 2 b i)) b.entries i result }
     {
-        if i >= self.len() {
-            return None;
-        }
-        let mut at = 5;
-        for j in 0..i {
-            let passed = self.sealed_at(at)?;
-            at = at + passed.body.len() + passed.pairs.len();
-        }
-        self.sealed_at(at)
+        self.entries().nth(i as usize)
     }
 }

@@ -1,4 +1,4 @@
-use Rattle.std.proofs.Common.{◌≡◌, ℕ, ◌+◌, ◌&&◌, leb, List, length, Ok, Err, Result, sym, refl, ap, ◌∙◌, subst, inr}
+use Rattle.std.proofs.Common.{◌≡◌, ℕ, List, Ok, Err, Result, sym, refl, ap, ◌∙◌, subst, inr, arith, length-take}
 use Rattle.std.proofs.lemmas.List.{length-map}
 use Rattle.std.proofs.lemmas.Result.{err_from_is_err_and}
 use Rattle.fault.specs.declared.Fault.{Fault}
@@ -8,13 +8,14 @@ use Rattle.record.specs.Chains.{guards}
 use Rattle.record.specs.Refusals.{InRange}
 use Rattle.record.proofs.Rules.{judged-only}
 use Rattle.record.proofs.Keeping.{reading}
+use Rattle.record.proofs.Shown.{found-each}
 use Rattle.reading.specs.Bodies.{ReadingBody, reading_format, reading_rules, reading_fields, ReadingIn, reading_of, ReadingReads}
 use Rattle.reading.specs.Orders.{Orderly}
 use Rattle.reading.specs.Marks.{read_item_body}
 use Rattle.reading.specs.Plans.{planned}
-use Rattle.reading.specs.Readings.{item_view, no_item}
+use Rattle.reading.specs.Readings.{item_in, item_view}
 use Rattle.reading.proofs.Readings.{live, coding}
-use Rattle.reading.proofs.Taking.{refused_form, refused-order, taken, laid_out, items-ran, head_some, inside, viewed, orderly}
+use Rattle.reading.proofs.Taking.{refused_form, refused-order, taken, laid_out, items-ran, head_some, inside, item_found, orderly}
 use Rattle.reading.proofs.read_reading.Goals as goal
 
 -- the promises, for the answer that the definitions give
@@ -56,12 +57,12 @@ returns c =
       ordered = order bs _ e;
       found = record {
         frame = refl;
-        some = head_some 2 bs p.count o.head;
-        few = a.few.0;
+        some = head_some 2 bs m.count o.head;
+        few = simp length-take (omega (arith, p.items.within));
         counted = length-map m.items (read_item_body 2 bs) ∙ r.count;
         places = r.places;
-        each_item = λ i. viewed (item_view bs) p.items no_item p.count 16 i (λ x. leb (x.place + 4) x.after && leb x.after (length bs)) a.few.0 r.count (inside 2 bs all m o);
+        each_item = found-each item_in (item_view bs) bs _ (item_found bs) m.items (inside 2 bs all m o);
         list = refl;
-        end = a.few.1;
+        end = a.few.0;
       };
     }

@@ -16,7 +16,7 @@ returns-then-not-has_key g c =
     let known = map g.R.Numbered.number c.args.known.now in
     let hit = ap (λ k. among k known) (sym c.key.ensures) ∙ sym c.if-not-has_key.ensures in
     let e = cover_stop c.args.layer known g.W.Numbered.number g.W.Numbered.place c.args.asked.now _ _ c.loop-w-test.true c.w-item.is hit ∙ c.loop-w.invariant in
-    rw c.offset.ensures (record { answer = e; says = say _ _ _ _ e })
+    rw (c.at.ensures, c.offset.ensures) (record { answer = e; says = say _ _ _ _ e })
 
 pub loop-w-preserved : goal.loop-w-preserved
 loop-w-preserved g c =

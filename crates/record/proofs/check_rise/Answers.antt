@@ -16,7 +16,7 @@ returns-then-not-is_above g c =
     let t = g.R.Numbered in
     let hit = ap (above c.loop-r.last) (sym c.key.ensures) ∙ sym c.if-not-is_above.ensures in
     let e = rise_stop c.args.layer t.number t.place c.args.records.now _ _ _ c.loop-r-test.true c.r-item.is hit ∙ c.loop-r.invariant in
-    rw c.offset.ensures (record { answer = e; says = say _ _ _ e })
+    rw (c.at.ensures, c.offset.ensures) (record { answer = e; says = say _ _ _ e })
 
 pub loop-r-preserved : goal.loop-r-preserved
 loop-r-preserved g c =

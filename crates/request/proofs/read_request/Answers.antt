@@ -1,4 +1,4 @@
-use Rattle.std.proofs.Common.{◌≡◌, ℕ, ◌+◌, ◌-◌, ◌&&◌, leb, List, length, take, drop, Ok, Err, Result, sym, refl, ap, ◌∙◌, subst, inr, arith}
+use Rattle.std.proofs.Common.{◌≡◌, ℕ, ◌+◌, ◌-◌, List, length, take, drop, Ok, Err, Result, sym, refl, ap, ◌∙◌, subst, inr, arith}
 use Rattle.std.proofs.lemmas.Result.{err_from_is_err_and}
 use Rattle.fault.specs.declared.Fault.{Fault}
 use Rattle.fault.specs.declared.Layer.TheVariants.{Frame}
@@ -10,14 +10,15 @@ use Rattle.record.specs.Refusals.{InRange}
 use Rattle.record.proofs.Rules.{judged-only}
 use Rattle.record.proofs.Keeping.{reading}
 use Rattle.record.proofs.Walks.{part_length}
+use Rattle.record.proofs.Shown.{found-each}
 use Rattle.request.specs.Bodies.{RequestBody, request_format, request_rules, request_fields, RequestIn, read_request, RequestReads}
 use Rattle.request.specs.Plans.{planned, body_of}
 use Rattle.request.specs.Orders.{Orderly}
 use Rattle.request.specs.Sizes.{RequestSize, covered_part}
 use Rattle.request.proofs.Sizing.{sized, orderly, covered_then_tag}
 use Rattle.request.proofs.Requests.{live, coding}
-use Rattle.request.proofs.Taking.{refused_form, refused-order, taken, laid_out, reads-inside, writes-inside, counts, reads_pass, writes_pass, viewed}
-use Rattle.request.specs.Requests.{read_view, write_view, no_read, no_write}
+use Rattle.request.proofs.Taking.{refused_form, refused-order, taken, laid_out, counts, reads-inside, writes-inside, read_found, write_found}
+use Rattle.request.specs.Requests.{read_in, read_view, write_in, write_view}
 use Rattle.request.proofs.read_request.Goals as goal
 
 -- the promises, for the answer that the definitions give
@@ -52,7 +53,6 @@ returns c =
     let m = planned p in
     let b = body_of 2 bs m in
     let o = laid_out 2 bs m (sym a.answer) in
-    let n = counts 2 bs all m o in
     let w : p.tag_at + 16 - p.tag_at ≡ 16 = omega arith in
     let ok = sym (taken 2 bs all m _ (sym a.answer) (sym c.in_ok-check_order.ensures)) in
     let e = (λ i. Ok (record { client = b.client; sequence = b.sequence; reads = b.reads; writes = b.writes; tag = take (w i) (drop p.tag_at bs) })) ∙ ok in
@@ -69,6 +69,7 @@ returns c =
         frame = refl;
         reads = a.few.0;
         writes = a.few.1;
+        counted = counts 2 bs all m o;
         reads_in = reads-inside 2 bs all m o;
         writes_in = writes-inside 2 bs all m o;
         tag = tag;
@@ -77,7 +78,7 @@ returns c =
         write-list = refl;
         end = a.few.2;
         covered = ap (take p.tag_at) split ∙ take_at (covered_part 2 b) b.tag p.tag_at (omega (arith, a.few.2, ap length split, length-append (covered_part 2 b) b.tag, got.0.tag));
-        each_read = λ i. viewed (read_view bs) p.reads no_read p.top.reads 16 i (λ r. leb (r.place + 35) (length bs)) a.few.0 n.0 (reads_pass (length bs) m.reads (reads-inside 2 bs all m o));
-        each_write = λ i. viewed (write_view bs) p.writes no_write p.top.writes 8 i (λ r. leb (r.place + 2) r.after && leb r.after (length bs)) a.few.1 n.1 (writes_pass (length bs) m.writes (writes-inside 2 bs all m o));
+        each_read = found-each read_in (read_view bs) bs _ (read_found bs) m.reads (reads-inside 2 bs all m o);
+        each_write = found-each write_in (write_view bs) bs _ (write_found bs) m.writes (writes-inside 2 bs all m o);
       };
     }

@@ -4,8 +4,7 @@ use Rattle.proof.specs.Writing.{weigh_entries}
 use Rattle.proof.proofs.weigh.weigh_entries.Given as goal
 
 -- what is left decides
-abbrev pub invariant-loop-sealed : goal.invariant-loop-sealed
-invariant-loop-sealed l =
-    (l.at ≤ 5 + 465 * l.sealed-index)
-    × (l.due ≡ l.low + l.sealed-index)
-    × (weigh_entries 2 l.f l.due (map sealed_body (drop l.sealed-index l.entries)) l.at ≡ weigh_entries 2 l.f l.low (map sealed_body l.entries) 5)
+abbrev pub invariant-loop-i : goal.invariant-loop-i
+invariant-loop-i l =
+    (l.at ≤ 5 + 465 * l.i)
+    × (weigh_entries 2 l.f (l.low + l.i) (map sealed_body (drop l.i l.entries)) l.at ≡ weigh_entries 2 l.f l.low (map sealed_body l.entries) 5)

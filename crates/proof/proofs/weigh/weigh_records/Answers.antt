@@ -1,4 +1,4 @@
-use Rattle.std.proofs.Common.{◌+◌, ◌-◌, drop, Some, Err, sym, ap, ◌∙◌, arith, rules}
+use Rattle.std.proofs.Common.{◌+◌, ◌-◌, drop, Some, Err, sym, ap, ◌∙◌, arith}
 use Rattle.std.proofs.lemmas.Result.{err_from_is_err_and}
 use Rattle.fault.specs.declared.Layer.TheVariants.{Proof}
 use Rattle.fault.specs.declared.Cause.TheVariants.{Malformed}
@@ -7,34 +7,21 @@ use Rattle.record.specs.Chains.{unless, tested}
 use Rattle.record.specs.Formats.{up_to}
 use Rattle.proof.specs.Rules.{numbered}
 use Rattle.proof.specs.Writing.{weigh_records}
-use Rattle.proof.proofs.WeighTurns.{too_many, bad_one, next_one, too_few, all_there}
+use Rattle.proof.proofs.WeighTurns.{bad_one, next_one, too_few}
 use Rattle.proof.proofs.weigh.weigh_records.Goals as goal
 
-pub returns-then-left-eq0 : goal.returns-then-left-eq0
-returns-then-left-eq0 g c =
-    let k = c.args.kind in
-    record {
-      near = tt;
-      answer = ap Err c.malformed.ensures
-          ∙ sym (too_many g.R.Keyed.key k.top k.size k.boards c.loop-r.last c.args.records.now c.loop-r.r-index c.loop-r.left c.loop-r.at c.r-item.result c.loop-r-test.true c.r-item.is c.if-left-eq0.true)
-          ∙ c.loop-r.invariant.1;
-    }
-
-pub returns-in_err-check_number : goal.returns-in_err-check_number
-returns-in_err-check_number g c =
+pub returns-in_err-check_number-clause-answer : goal.returns-in_err-check_number-clause-answer
+returns-in_err-check_number-clause-answer g c =
     let k = c.args.kind in
     let at = c.loop-r.at in
     let last = c.loop-r.last in
     let q = c.number-number.ensures in
     let p = err_from_is_err_and c.from_residual.result c.from_residual.ensures.1 in
     let hit = (λ i. unless (up_to k.top (sym q i)) (fault Malformed Proof at) (tested (numbered k.boards last (sym q i) at))) ∙ sym c.in_err-check_number.ensures in
-    record {
-      near = search rules;
-      answer = p.1
-          ∙ ap Err p.2
-          ∙ sym (bad_one g.R.Keyed.key k.top k.size k.boards last c.args.records.now c.loop-r.r-index c.loop-r.left at c.r-item.result c.loop-r-test.true c.r-item.is _ (omega (arith, c.if-left-eq0.false)) hit)
-          ∙ c.loop-r.invariant.1;
-    }
+    p.1
+    ∙ ap Err p.2
+    ∙ sym (bad_one g.R.Keyed.key k.top k.size k.boards last c.args.records.now c.loop-r.r-index c.loop-r.left at c.r-item.result c.loop-r-test.true c.r-item.is _ (omega (arith, c.if-left-eq0.false)) hit)
+    ∙ c.loop-r.invariant.1
 
 pub loop-r-preserved : goal.loop-r-preserved
 loop-r-preserved g c =
@@ -49,20 +36,9 @@ loop-r-preserved g c =
           ∙ c.loop-r.invariant.1,
     )
 
-pub returns-then-left-gt0 : goal.returns-then-left-gt0
-returns-then-left-gt0 g c =
+pub returns-then-left-gt0-clause-answer : goal.returns-then-left-gt0-clause-answer
+returns-then-left-gt0-clause-answer g c =
     let k = c.args.kind in
-    record {
-      near = tt;
-      answer = ap Err c.malformed-then-left-gt0.ensures
-          ∙ sym (too_few g.R.Keyed.key k.top k.size k.boards c.loop-r.last c.args.records.now c.loop-r.r-index c.loop-r.left c.loop-r.at c.loop-r-test.false c.if-left-gt0.true)
-          ∙ c.loop-r.invariant.1;
-    }
-
-pub returns : goal.returns
-returns g c =
-    let k = c.args.kind in
-    record {
-      near = omega arith;
-      answer = sym (all_there g.R.Keyed.key k.top k.size k.boards c.loop-r.last c.args.records.now c.loop-r.r-index c.loop-r.left c.loop-r.at c.loop-r-test.false (omega (arith, c.if-left-gt0.false))) ∙ c.loop-r.invariant.1;
-    }
+    ap Err c.malformed-then-left-gt0.ensures
+    ∙ sym (too_few g.R.Keyed.key k.top k.size k.boards c.loop-r.last c.args.records.now c.loop-r.r-index c.loop-r.left c.loop-r.at c.loop-r-test.false c.if-left-gt0.true)
+    ∙ c.loop-r.invariant.1

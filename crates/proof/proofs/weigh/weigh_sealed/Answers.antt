@@ -1,5 +1,5 @@
-use Rattle.std.proofs.Common.{◌≡◌, ◌+◌, length, Some, None, Err, sym, ap, ◌∙◌, arith, rules}
-use Rattle.std.proofs.lemmas.Result.{err_from_is_err_and, IfOk-weaker}
+use Rattle.std.proofs.Common.{◌≡◌, ◌+◌, length, Some, None, Err, sym, ap, ◌∙◌, arith}
+use Rattle.std.proofs.lemmas.Result.{err_from_is_err_and}
 use Rattle.record.proofs.Steps.{then_ok, then_err}
 use Rattle.entry.specs.Bodies.{entry_body, item_body, pair_body, sealed_body}
 use Rattle.proof.specs.Rules.{item_number, pair_number}
@@ -28,24 +28,19 @@ items_weighed c =
     ∙ weigh_map item_body item_number 63 32 None (length b.items) None xs (c.args.at + 2 + 1)
     ∙ ap (λ l. weigh_records item_number 63 32 None (length b.items) None l (c.args.at + 2 + 1)) (c.items.ensures.0 ∙ ap (λ e. e.items) (same-entry c))
 
-pub returns-in_err-pairs_at : goal.returns-in_err-pairs_at
-returns-in_err-pairs_at c =
-    let w = (goal.at.returns-in_err-pairs_at c).After-weigh_records in
+pub returns-in_err-pairs_at-clause-answer : goal.returns-in_err-pairs_at-clause-answer
+returns-in_err-pairs_at-clause-answer c =
+    let w = (goal.at.returns-in_err-pairs_at-clause-answer c).After-weigh_records in
     let b = sealed_body c.args.sealed.now in
     let f = c.args.f in
     let p = err_from_is_err_and c.from_residual.result c.from_residual.ensures.1 in
     let dated : b.entry.version ≡ c.args.due = ap (λ e. e.version) (sym (same-entry w)) ∙ sym c.version.ensures.0 ∙ c.if-version-due.false in
     let all = sealed_weighed 2 f c.args.due b c.args.at dated (omega (arith, count w, c.if-count-lt1.false)) (omega (arith, count w, c.len-count.ensures.1)) in
-    record {
-      near = search rules;
-      answer = p.1
-          ∙ ap Err p.2
-          ∙ sym (all ∙ then_err _ (λ e. weigh_records pair_number 255 16 (Some f) (f + 1) None b.pairs e) _ (sym (items_weighed w) ∙ c.in_err-pairs_at.was));
-    }
+    p.1 ∙ ap Err p.2 ∙ sym (all ∙ then_err _ (λ e. weigh_records pair_number 255 16 (Some f) (f + 1) None b.pairs e) _ (sym (items_weighed w) ∙ c.in_err-pairs_at.was))
 
-pub returns : goal.returns
-returns c =
-    let w = (goal.at.returns c).After-weigh_records in
+pub returns-clause-answer : goal.returns-clause-answer
+returns-clause-answer c =
+    let w = (goal.at.returns-clause-answer c).After-weigh_records in
     let b = sealed_body c.args.sealed.now in
     let f = c.args.f in
     let k = c.pairs-2.ensures in
@@ -59,8 +54,4 @@ returns c =
     ∙ weigh_map pair_body pair_number 255 16 (Some f) (f + 1) None ps mid
     ∙ ap (λ l. weigh_records pair_number 255 16 (Some f) (f + 1) None l mid) c.pairs.ensures.0
     in
-    record {
-      near = IfOk-weaker c.weigh_records-2.result _ _ (λ e h. omega (arith, h, c.in_ok-pairs_at.ensures.near, c.items.ensures.1, c.pairs.ensures.1)) c.weigh_records-2.ensures.near;
-      answer = pairs
-          ∙ sym (all ∙ then_ok _ (λ e. weigh_records pair_number 255 16 (Some f) (f + 1) None b.pairs e) mid (sym (items_weighed w) ∙ c.in_ok-pairs_at.was));
-    }
+    pairs ∙ sym (all ∙ then_ok _ (λ e. weigh_records pair_number 255 16 (Some f) (f + 1) None b.pairs e) mid (sym (items_weighed w) ∙ c.in_ok-pairs_at.was))

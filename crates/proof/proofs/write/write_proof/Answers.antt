@@ -38,13 +38,13 @@ returns-then-out-size c =
     let b = drafted c.args.low c.args.high c.args.entries.now in
     let old = c.args.out.now in
     let n = c.in_ok-size.size in
-    let e : Err (fault NoRoom Frame 0) ≡ write_proof 2 c.args.f b (length old) =
-    sym (room_left c.args.f (length old) n b (sym c.in_ok-size.ensures) ∙ refuse (leb n (length old)) (fault NoRoom Frame 0) (Ok n) (lt-leb n (length old) (omega arith)))
+    let e : Err c.at.result ≡ write_proof 2 c.args.f b (length old) =
+    ap Err c.at.ensures ∙ sym (room_left c.args.f (length old) n b (sym c.in_ok-size.ensures) ∙ refuse (leb n (length old)) (fault NoRoom Frame 0) (Ok n) (lt-leb n (length old) (omega arith)))
     in
     record { answer = e; size = (tt, known_sizes); promised = promise c.args.f c.args.low c.args.high c.args.entries.now old old _ (λ i. (c.type_inv.out i).fits) e refl }
 
-pub put_proof-requires : goal.put_proof-requires
-put_proof-requires c =
+pub put-requires : goal.put-requires
+put-requires c =
     let es = c.args.entries.now in
     let b = drafted c.args.low c.args.high es in
     let q = sym c.in_ok-size.ensures in
@@ -62,6 +62,6 @@ returns c =
     let e : Ok n ≡ write_proof 2 c.args.f b (length old) =
     sym (room_left c.args.f (length old) n b q ∙ pass (leb n (length old)) (fault NoRoom Frame 0) (Ok n) (le-leb n (length old) (omega arith)))
     in
-    let put = c.put_proof.ensures ∙ ap (λ k. proof_bytes 2 b ++ drop k old) (sym long) in
+    let put = c.put.ensures ∙ ap (λ k. proof_bytes 2 b ++ drop k old) (sym long) in
     let kept = promise c.args.f c.args.low c.args.high es old _ (Ok n) (λ i. (c.type_inv.out i).fits) e put in
     record { answer = e; size = (subst (ProofSize 2 c.args.f b) (sym long) (sized 2 c.args.f b (kept.back n refl).0.in_range), known_sizes); promised = kept }

@@ -45,7 +45,7 @@ returns-then-out-plan c =
     let e : Err (fault NoRoom Frame 0) ≡ write_reading 2 (drafted ds) (length old) =
     sym (room_left ds (length old) _ _ (sym c.in_ok-plan.ensures.answer) (sym c.in_ok-check_order.ensures) ∙ refuse (leb n (length old)) (fault NoRoom Frame 0) (Ok n) (lt-leb n (length old) (omega arith)))
     in
-    record { answer = e; promised = promise ds old old _ (λ i. (c.type_inv.out i).fits) e refl }
+    rw c.at.ensures (record { answer = e; promised = promise ds old old _ (λ i. (c.type_inv.out i).fits) e refl })
 
 pub put_draft-requires : goal.put_draft-requires
 put_draft-requires c =

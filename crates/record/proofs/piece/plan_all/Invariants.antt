@@ -1,10 +1,12 @@
-use Rattle.std.proofs.Common.{◌≡◌, ◌+◌, ◌*◌, ◌≤◌, take, drop}
+use Rattle.std.proofs.Common.{◌≡◌, ◌+◌, ◌*◌, ◌≤◌, length, drop}
+use Rattle.inline_vec.specs.Lists.{items}
 use Rattle.record.specs.Runs.{planned_run, behind}
 use Rattle.record.proofs.piece.plan_all.Given as goal
 
 -- the marks so far stand before those that are left
-abbrev pub invariant-loop-i : goal.invariant-loop-i
-invariant-loop-i g l =
+abbrev pub invariant-loop-part : goal.invariant-loop-part
+invariant-loop-part g l =
     let t = g.P.Part in
     let u = g.P.Mark.Record in
-    (l.at ≤ l.start + 8192 * l.i) × (behind (take l.i l.out) (planned_run t.judged u.ends (drop l.i l.parts) l.at) ≡ planned_run t.judged u.ends l.parts l.start)
+    (l.at ≤ l.start + 8192 * l.part-index) × (length (items l.marks) ≡ l.part-index)
+    × (behind (items l.marks) (planned_run t.judged u.ends (drop l.part-index l.first) l.at) ≡ planned_run t.judged u.ends l.first l.start)

@@ -1,21 +1,47 @@
-use Rattle.std.proofs.Common.{◌≡◌, ◌-◌, length, take, Ok, ◌∙◌, arith, length-take, rules}
-use Rattle.std.proofs.lemmas.List.{take_at}
+use Rattle.std.proofs.Common.{length, Ok, sym, ◌∙◌, arith, rules}
+use Rattle.std.proofs.lemmas.Result.{err_from_is_err_and}
+use Rattle.inline_vec.specs.Lists.{items}
+use Rattle.record.specs.Runs.{planned_run}
+use Rattle.record.proofs.Steps.{then_ok, then_err}
+use Rattle.record.proofs.Runs.{plan_fits}
+use Rattle.request.specs.Marks.{read_ends, write_ends}
+use Rattle.request.specs.Drafts.{head_judged, plan_reads, plan_writes, read_judged, write_judged}
 use Rattle.request.proofs.Laying.{draft_together}
 use Rattle.request.proofs.draft.plan_draft.Goals as goal
 
+pub returns-in_err-reads-clause-answer : goal.returns-in_err-reads-clause-answer
+returns-in_err-reads-clause-answer c =
+    let ds = c.args.draft in
+    let p = err_from_is_err_and c.from_residual-in_err-reads.result c.from_residual-in_err-reads.ensures.1 in
+    let a = c.in_ok-top.ensures in
+    let h = c.in_ok-top.top in
+    let one = c.in_err-reads.ensures.all ∙ plan_fits read_judged (read_ends 2) ds.reads.now 16 6 (omega (arith, a.few)) in
+    rw (p.1, p.2) (sym (then_ok (head_judged ds.client ds.sequence (length ds.reads.now) (length ds.writes.now)) (plan_reads ds) h (sym a.answer) ∙ then_err (planned_run read_judged (read_ends 2) ds.reads.now 6) (plan_writes ds h) _ (sym one)))
+
+pub returns-in_err-writes-clause-answer : goal.returns-in_err-writes-clause-answer
+returns-in_err-writes-clause-answer c =
+    let ds = c.args.draft in
+    let p = err_from_is_err_and c.from_residual-in_err-writes.result c.from_residual-in_err-writes.ensures.1 in
+    let a = c.in_ok-top.ensures in
+    let h = c.in_ok-top.top in
+    let rs = items c.in_ok-reads.reads in
+    let e = c.in_ok-reads.writes_at in
+    let one = c.in_ok-reads.ensures.all ∙ plan_fits read_judged (read_ends 2) ds.reads.now 16 6 (omega (arith, a.few)) in
+    let two = c.in_err-writes.ensures.all ∙ plan_fits write_judged write_ends ds.writes.now 8 e (omega (arith, a.few)) in
+    rw (p.1, p.2) (sym
+    (then_ok (head_judged ds.client ds.sequence (length ds.reads.now) (length ds.writes.now)) (plan_reads ds) h (sym a.answer)
+    ∙ then_ok (planned_run read_judged (read_ends 2) ds.reads.now 6) (plan_writes ds h) (rs, e) (sym one)
+    ∙ then_err (planned_run write_judged write_ends ds.writes.now e) (λ q. Ok (record { top = h; reads = rs; writes = q.0; writes_at = e; tag_at = q.1 })) _ (sym two)))
+
 pub returns : goal.returns
 returns c =
+    let ds = c.args.draft in
     let a = c.in_ok-top.ensures in
-    let b = c.in_ok-writes_at.ensures in
-    let d = c.in_ok-tag_at.ensures in
+    let b = c.in_ok-reads.ensures in
+    let d = c.in_ok-writes.ensures in
     let h = c.in_ok-top.top in
-    let nr : length (take (h.reads - 0) c.no_reads-reads.result) ≡ h.reads = simp length-take (omega arith) in
-    let nw : length (take (h.writes - 0) c.no_writes-writes.result) ≡ h.writes = simp length-take (omega arith) in
-    let tr = take_at c.plan_all.new.out _ h.reads (c.plan_all.auto.out ∙ nr) in
-    let tw = take_at c.plan_all-2.new.out _ h.writes (c.plan_all-2.auto.out ∙ nw) in
     record {
-      answer = (λ i. Ok (record { top = h; reads = tr i; writes = tw i; writes_at = c.in_ok-writes_at.writes_at; tag_at = c.in_ok-tag_at.tag_at }))
-          ∙ draft_together c.args.draft h c.plan_all.new.out c.plan_all-2.new.out _ _ a.answer b.all d.all;
+      answer = draft_together ds h _ _ _ _ a.answer (b.all ∙ plan_fits read_judged (read_ends 2) ds.reads.now 16 6 (omega (arith, a.few))) (d.all ∙ plan_fits write_judged write_ends ds.writes.now 8 c.in_ok-reads.writes_at (omega (arith, a.few)));
       few = (a.few.2, a.few.3, omega (arith, a.few, b.near, d.near));
       tag = search rules;
     }

@@ -50,7 +50,7 @@ returns-then-out-size c =
     let e : Err (fault NoRoom Frame 0) ≡ write_request 2 (drafted d) (length old) =
     sym (room_left d q.tag (length old) _ _ (sym q.answer) (sym c.in_ok-check_order.ensures) ∙ refuse (leb n (length old)) (fault NoRoom Frame 0) (Ok n) (lt-leb n (length old) (omega arith)))
     in
-    record { answer = e; size = (tt, (refl, refl)); occur = sizes_occur; promised = promised d old old _ q.tag (λ i. (c.type_inv.out i).fits) e refl }
+    rw c.at.ensures (record { answer = e; size = (tt, (refl, refl)); occur = sizes_occur; promised = promised d old old _ q.tag (λ i. (c.type_inv.out i).fits) e refl })
 
 pub put_draft-requires : goal.put_draft-requires
 put_draft-requires c =
