@@ -13,7 +13,7 @@ use Rattle.audit.specs.Tracking.{Tracks}
 
 -- stands where there is no board
 abbrev pub no_track : Track
-no_track = record { right = 0; wrong = 0 }
+no_track = record { right = None; wrong = None }
 
 -- what is kept of a board
 abbrev pub track_of : {S D L : Type 0} → Audit S D L → ℕ → Track

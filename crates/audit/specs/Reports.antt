@@ -1,5 +1,5 @@
 -- Reports of marks, what it tells whether one is right, and where a board departed.
-use Rattle.std.specs.Prelude.{◌≡◌, ℕ, ◌-◌, ◌<◌, ◌≤◌, ◌⊎◌, List, length, Some}
+use Rattle.std.specs.Prelude.{◌≡◌, ℕ, ◌-◌, ◌<◌, ◌≤◌, ◌⊎◌, List, length, Some, None, Option}
 use Rattle.std.specs.List.{slice_get}
 use Rattle.request.specs.Bodies.{WriteBody}
 use Rattle.history.specs.Events.{Event, effects}
@@ -9,7 +9,6 @@ use Rattle.history.specs.Marks.{Clash, digested}
 use Rattle.audit.specs.declared.answers.Judgement.{Judgement}
 use Rattle.audit.specs.declared.answers.Judgement.TheVariants.{Right, Wrong}
 use Rattle.audit.specs.declared.answers.Departure.{Departure}
-use Rattle.audit.specs.declared.answers.Departure.TheVariants.{Never, Between}
 
 -- a report: the board that gave it, its mark, and the commits that the replay had made by then
 pub record Report : Type 0 where
@@ -58,18 +57,18 @@ module _ (digest : List ℕ → List ℕ) where
   abbrev pub FirstWrong : List Report → ℕ → ℕ → Type 0
   FirstWrong reports b n = OfBoard WrongMark reports b n × ((k : ℕ) → k < n → OfBoard WrongMark reports b k → ⊥)
 
-  -- board b's last right report before report number `end`; 0 where it has none
-  abbrev pub LastRight : List Report → ℕ → ℕ → ℕ → Type 0
-  LastRight reports b end n =
-      (n < end) × (1 ≤ n → OfBoard RightMark reports b n) × ((k : ℕ) → n < k → k < end → OfBoard RightMark reports b k → ⊥)
+  -- board b's last right report before report number `end`; none where it has none
+  abbrev pub LastRight : List Report → ℕ → ℕ → Option ℕ → Type 0
+  LastRight reports b end (Some n) = (n < end) × OfBoard RightMark reports b n × ((k : ℕ) → n < k → k < end → OfBoard RightMark reports b k → ⊥)
+  LastRight reports b end None = (k : ℕ) → k < end → OfBoard RightMark reports b k → ⊥
 
   -- Where board b departed: never, if it gave no wrong report; else between its last right report before the first wrong one, and that one.
-  abbrev pub Departs : List Report → ℕ → Departure → Type 0
-  Departs reports b Never = (k : ℕ) → OfBoard WrongMark reports b k → ⊥
-  Departs reports b (Between right wrong) = FirstWrong reports b wrong × LastRight reports b wrong right
+  abbrev pub Departs : List Report → ℕ → Option Departure → Type 0
+  Departs reports b None = (k : ℕ) → OfBoard WrongMark reports b k → ⊥
+  Departs reports b (Some d) = FirstWrong reports b d.wrong × LastRight reports b d.wrong d.right
 
   -- What a departure tells of the commits that the board had: at the one report the replay's, at the other not.
-  abbrev pub Parts : List Report → Departure → Type 0
-  Parts reports Never = Unit {0}
-  Parts reports (Between right wrong) =
-      ((r : Report) → Numbered reports right r → TellsAll Right r) × ((r : Report) → Numbered reports wrong r → TellsAll Wrong r)
+  abbrev pub Parts : List Report → Option Departure → Type 0
+  Parts reports None = Unit {0}
+  Parts reports (Some d) =
+      ((n : ℕ) (r : Report) → d.right ≡ Some n → Numbered reports n r → TellsAll Right r) × ((r : Report) → Numbered reports d.wrong r → TellsAll Wrong r)

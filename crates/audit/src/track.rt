@@ -2,9 +2,9 @@
 
 pub mod notes;
 
-// Its last right report before its first wrong one, and that one; 0 stands for none.
+// Its last right report before its first wrong one, and that one.
 #[derive(Clone, Copy)]
 pub struct Track {
-    right: u32,
-    wrong: u32,
+    right: Option<u32>,
+    wrong: Option<u32>,
 }

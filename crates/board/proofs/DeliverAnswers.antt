@@ -1,8 +1,9 @@
 -- What a delivery answers, and where it brings a board.
-use Rattle.std.proofs.Common.{◌≡◌, ℕ, ◌≤◌, List, [], ◌∷◌, ◌++◌, take, Ok, Err, Result, sym, refl, ap, ◌∙◌, subst, arith}
+use Rattle.std.proofs.Common.{◌≡◌, ℕ, ◌≤◌, List, [], ◌∷◌, ◌++◌, take, Ok, Err, Option, Result, sym, refl, ap, ◌∙◌, subst, arith}
 use Rattle.std.specs.List.{AllByRecursion, AllByRecursion as All}
 use Rattle.fault.specs.declared.Fault.{Fault}
-use Rattle.fault.specs.declared.Verdict.TheVariants.{Abort, Commit}
+use Rattle.fault.specs.declared.Verdict.TheVariants as verdict
+use Rattle.decision.specs.declared.Decision.TheVariants.{Abort, Commit}
 use Rattle.fault.specs.declared.Cause.TheVariants.{BankFull, NotOpen, WrongTag}
 use Rattle.fault.specs.declared.Layer.TheVariants as layer
 use Rattle.fault.specs.Codes.{fault}
@@ -123,13 +124,13 @@ module _ {S D L : Type 0} (holds : S → ℕ → Slot) (digest : List ℕ → Li
       items all
 
   -- an abort: the number is used up, and nothing else
-  pub aborts : (c : Board S D L) (version opened : ℕ)
+  pub aborts : (c : Board S D L) (opened : Option ℕ)
       → c.place ≡ b.place → c.seal ≡ b.seal → c.count ≡ b.count → c.chain ≡ b.chain → c.store ≡ b.store → c.window ≡ b.window
       → ((more : ℕ → List ℕ) → UsedMore (λ k. used k (effects h)) q.client q.sequence more → TracksAll width c.clients more)
-      → Represents holds digest tag_of tag f own c (h ++ delivered frame (Ok (record { verdict = Abort; version = version; opened = opened })) ∷ [])
-  aborts c version opened place seal count chain store window tracks =
-      let e = delivered frame (Ok (record { verdict = Abort; version = version; opened = opened })) in
-      let is : effect e ≡ abort q.client q.sequence = ap (λ r. verdict_effect r Abort) reads in
+      → Represents holds digest tag_of tag f own c (h ++ delivered frame (Ok (record { decision = Abort; opened = opened })) ∷ [])
+  aborts c opened place seal count chain store window tracks =
+      let e = delivered frame (Ok (record { decision = Abort; opened = opened })) in
+      let is : effect e ≡ abort q.client q.sequence = ap (λ r. verdict_effect r verdict.Abort) reads in
       let es = effects h in
       let more : effects (h ++ e ∷ []) ≡ es ++ abort q.client q.sequence ∷ [] = effects_push h e ∙ ap (λ x. es ++ x ∷ []) is in
       let us : ℕ → List ℕ = λ k. used k (es ++ abort q.client q.sequence ∷ []) in
@@ -141,15 +142,15 @@ module _ {S D L : Type 0} (holds : S → ℕ → Slot) (digest : List ℕ → Li
       (tracks us (used-abort es q.client q.sequence, λ k ne. used-abort-other es q.client q.sequence k (λ x. ne (sym x)))) st)
 
   -- a commit: m is the board behind the number that is used up
-  pub commit-made : (m c : Board S D L) (version opened : ℕ) → Committed digest holds m c q.writes
+  pub commit-made : (m c : Board S D L) (version : ℕ) (opened : Option ℕ) → Committed digest holds m c q.writes
       → m.place ≡ b.place → m.seal ≡ b.seal → m.count ≡ b.count → m.chain ≡ b.chain → m.store ≡ b.store → m.window ≡ b.window
       → ((more : ℕ → List ℕ) → UsedMore (λ k. used k (effects h)) q.client q.sequence more → TracksAll width m.clients more)
-      → Represents holds digest tag_of tag f own c (h ++ delivered frame (Ok (record { verdict = Commit; version = version; opened = opened })) ∷ [])
+      → Represents holds digest tag_of tag f own c (h ++ delivered frame (Ok (record { decision = Commit version; opened = opened })) ∷ [])
   commit-made m c version opened made place seal count chain store window tracks =
-      let e = delivered frame (Ok (record { verdict = Commit; version = version; opened = opened })) in
+      let e = delivered frame (Ok (record { decision = Commit version; opened = opened })) in
       let es = effects h in
       let one = commit q.client q.sequence q.writes in
-      let is : effect e ≡ one = ap (λ r. verdict_effect r Commit) reads in
+      let is : effect e ≡ one = ap (λ r. verdict_effect r verdict.Commit) reads in
       let more : effects (h ++ e ∷ []) ≡ es ++ one ∷ [] = effects_push h e ∙ ap (λ x. es ++ x ∷ []) is in
       let us : ℕ → List ℕ = λ k. used k (es ++ one ∷ []) in
       stands_same holds digest tag_of tag f own c (commits es ++ q.writes ∷ []) (commits (effects (h ++ e ∷ []))) us (λ k. used k (effects (h ++ e ∷ [])))

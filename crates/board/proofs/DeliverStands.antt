@@ -78,7 +78,7 @@ module _ {S D L : Type 0} (holds : S → ℕ → Slot) (digest : List ℕ → Li
       let k : b.count + 1 ≡ length cs + 1 = ap (λ m. m + 1) counts in
       let version : made.entry.version ≡ length cs + 1 = ap (λ (e : EntryBody). e.version) made.body ∙ k in
       record {
-        faults = ap (λ p. p.f) made.place ∙ st.faults;
+        faults = ap (λ p. p.size.f) made.place ∙ st.faults;
         number = ap (λ p. p.number) made.place ∙ st.number;
         seal = λ s m. ap (λ l. tagOf' l s m) made.seal ∙ st.seal s m;
         count = made.count ∙ k ∙ sym n;
@@ -122,7 +122,7 @@ module _ {S D L : Type 0} (holds : S → ℕ → Slot) (digest : List ℕ → Li
       → c.place ≡ b.place → c.seal ≡ b.seal → c.count ≡ b.count → c.chain ≡ b.chain → c.store ≡ b.store → c.window ≡ b.window
       → TracksAll width c.clients vs → Stands holds digest tagOf' tag f own b cs us ps → Stands holds digest tagOf' tag f own c cs vs ps
   stands-used b c cs us vs ps place seal count chain store window tracks st = record {
-    faults = ap (λ p. p.f) place ∙ st.faults;
+    faults = ap (λ p. p.size.f) place ∙ st.faults;
     number = ap (λ p. p.number) place ∙ st.number;
     seal = λ s m. ap (λ l. tagOf' l s m) seal ∙ st.seal s m;
     count = count ∙ st.count;

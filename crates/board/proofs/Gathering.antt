@@ -16,36 +16,25 @@ use Rattle.window.specs.declared.ring.Window.{Window}
 use Rattle.window.specs.Windows.{shares_in}
 use Rattle.board.specs.Proofs.{sealed_in, sealed_row}
 
--- the versions from the one at i on
-next-version : (first count i : ℕ) → i < count → range_with_len (first + i) (count - i) ≡ (first + i) ∷ range_with_len (first + (i + 1)) (count - (i + 1))
-next-version first count i lt =
-    let more : count - i ≡ suc (count - (i + 1)) = omega arith in
-    let on : first + i + 1 ≡ first + (i + 1) = omega arith in
-    ap (range_with_len (first + i)) more ∙ ap (λ a. (first + i) ∷ range_with_len a (count - (i + 1))) on
-
-no_version : (first count i : ℕ) → count ≤ i → range_with_len (first + i) (count - i) ≡ []
-no_version first count i le = let none : count - i ≡ 0 = omega arith in ap (range_with_len (first + i)) none
-
--- the rows of the versions from the one at i on
-module _ (w : Window) (f first count i : ℕ) where
+-- the rows of the versions from v on, as far as the last
+module _ (w : Window) (f v last : ℕ) where
   abbrev rows_left : Result (Unit {0}) Fault
-  rows_left = tested (map (sealed_row w f) (range_with_len (first + i) (count - i)))
+  rows_left = tested (map (sealed_row w f) (range_with_len v (last - v)))
 
-  rows_next : i < count → rows_left ≡ tested (map (sealed_row w f) ((first + i) ∷ range_with_len (first + (i + 1)) (count - (i + 1))))
-  rows_next lt = ap (λ vs. tested (map (sealed_row w f) vs)) (next-version first count i lt)
+  abbrev rows_behind : Result (Unit {0}) Fault
+  rows_behind = tested (map (sealed_row w f) (range_with_len (v + 1) (last - (v + 1))))
 
-  pub unsealed_here : i < count → shares_in w (first + i) ≤ f → rows_left ≡ Err (fault Unsealed Board (first + i))
-  unsealed_here lt few =
-      rows_next lt
-      ∙ refuse (ltb f (shares_in w (first + i))) (fault Unsealed Board (first + i)) (tested (map (sealed_row w f) (range_with_len (first + (i + 1)) (count - (i + 1))))) (le-ltb f (shares_in w (first + i)) few)
+  rows_next : v < last → rows_left ≡ tested (map (sealed_row w f) (v ∷ range_with_len (v + 1) (last - (v + 1))))
+  rows_next lt = let more : last - v ≡ suc (last - (v + 1)) = omega arith in ap (λ n. tested (map (sealed_row w f) (range_with_len v n))) more
 
-  pub sealed_here : i < count → f < shares_in w (first + i) → rows_left ≡ tested (map (sealed_row w f) (range_with_len (first + (i + 1)) (count - (i + 1))))
-  sealed_here lt many =
-      rows_next lt
-      ∙ pass (ltb f (shares_in w (first + i))) (fault Unsealed Board (first + i)) (tested (map (sealed_row w f) (range_with_len (first + (i + 1)) (count - (i + 1))))) (lt-ltb f (shares_in w (first + i)) many)
+  pub unsealed_here : v < last → shares_in w v ≤ f → rows_left ≡ Err (fault Unsealed Board v)
+  unsealed_here lt few = rows_next lt ∙ refuse (ltb f (shares_in w v)) (fault Unsealed Board v) rows_behind (le-ltb f (shares_in w v) few)
 
-  pub all_sealed : count ≤ i → rows_left ≡ Ok tt
-  all_sealed le = ap (λ vs. tested (map (sealed_row w f) vs)) (no_version first count i le)
+  pub sealed_here : v < last → f < shares_in w v → rows_left ≡ rows_behind
+  sealed_here lt many = rows_next lt ∙ pass (ltb f (shares_in w v)) (fault Unsealed Board v) rows_behind (lt-ltb f (shares_in w v) many)
+
+  pub all_sealed : last ≤ v → rows_left ≡ Ok tt
+  all_sealed le = let none : last - v ≡ 0 = omega arith in ap (λ n. tested (map (sealed_row w f) (range_with_len v n))) none
 
 -- one entry more in front of a list
 module _ (w : Window) (first i : ℕ) (s : SealedEntry) (is : sealed_body s ≡ sealed_in w (first + i)) where

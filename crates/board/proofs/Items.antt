@@ -11,10 +11,10 @@ use Rattle.history.specs.Events.{Effect}
 use Rattle.history.specs.Commits.{commits, kept, left, shown}
 use Rattle.history.specs.Tables.{Succeeds}
 use Rattle.history.proofs.ReadLaws.{shown-kept}
-use Rattle.board.specs.Said.{item_now, shown_slot}
+use Rattle.bank.specs.Answers.{item_answer, shown_slot}
 
 pub item-answered : (digest : List ℕ → List ℕ) (tag : ℕ → List ℕ → List ℕ) (f own : ℕ) (es : List Effect) (holds : ℕ → Slot) (x : ℕ) (r : Result Slot Fault)
-    → r ≡ item_now digest holds x → ((y : ℕ) → y < 64 → holds y ≡ kept digest (left (commits es) y)) → ItemAnswers digest tag f own es x r
+    → r ≡ item_answer digest holds x → ((y : ℕ) → y < 64 → holds y ≡ kept digest (left (commits es) y)) → ItemAnswers digest tag f own es x r
 item-answered digest tag f own es holds x r is items =
     elim (cases_lt 63 x) [
       | inl above ↦ ((λ _. is ∙ cond-true (ltb 63 x) (Err (fault Malformed Frame 1)) (Ok (shown_slot digest (holds x))) (lt-ltb 63 x above)), λ within. absurd (within above))

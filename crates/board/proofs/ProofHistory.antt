@@ -90,7 +90,7 @@ module _ {S D L : Type 0} (holds : S → ℕ → Slot) (digest : List ℕ → Li
   count = length (commits es)
 
   few : f ≤ 5
-  few = subst (λ k. k ≤ 5) st.faults b.place.few
+  few = subst (λ k. k ≤ 5) st.faults b.place.size.few
 
   -- every version of a range that was let through is held
   held : Ranged count low high → (v : ℕ) → max 1 low ≤ v → v ≤ high → Holds digest f b.window (commits es) (shares_of v es) v
@@ -124,10 +124,10 @@ module _ {S D L : Type 0} (holds : S → ℕ → Slot) (digest : List ℕ → Li
           none_or zero e = omega arith
           none_or (suc k) e = (let late : count < max 1 low + 32 = recent (omega arith) in omega arith)
 
-  now_then : (room : ℕ) (r : Result ℕ Fault) → r ≡ proof_now b.window b.place.f b.count low high room → r ≡ proof_now b.window f count low high room
+  now_then : (room : ℕ) (r : Result ℕ Fault) → r ≡ proof_now b.window b.place.size.f b.count low high room → r ≡ proof_now b.window f count low high room
   now_then room r is = is ∙ (λ t. proof_now b.window (st.faults t) (st.count t) low high room)
 
-  pub proof-answered : (room : ℕ) (r : Result ℕ Fault) → r ≡ proof_now b.window b.place.f b.count low high room → ProofAnswers digest tag f own es low high room r
+  pub proof-answered : (room : ℕ) (r : Result ℕ Fault) → r ≡ proof_now b.window b.place.size.f b.count low high room → ProofAnswers digest tag f own es low high room r
   proof-answered room r is =
       let first = max 1 low in
       let w = b.window in
@@ -163,7 +163,7 @@ module _ {S D L : Type 0} (holds : S → ℕ → Slot) (digest : List ℕ → Li
       not_le m n no' = omega arith
 
   -- what an accepted call wrote is the history's proof
-  module _ (room : ℕ) (r : Result ℕ Fault) (is : r ≡ proof_now b.window b.place.f b.count low high room) where
+  module _ (room : ℕ) (r : Result ℕ Fault) (is : r ≡ proof_now b.window b.place.size.f b.count low high room) where
     written_same : (n : ℕ) → r ≡ Ok n → proof_in b.window low high ≡ proof_body digest tag f own es low high
     written_same n done =
         let first = after-some (range_now count low high) (after (tested (map (sealed_row b.window f) (versions (max 1 low) high))) (framed_now f (proof_in b.window low high) room)) n
@@ -174,13 +174,13 @@ module _ {S D L : Type 0} (holds : S → ℕ → Slot) (digest : List ℕ → Li
     proof-filled old new put =
         put ∙ filled-same r (proof_bytes 2 (proof_in b.window low high)) (proof_frame digest tag f own es low high) old (λ n done. ap (proof_bytes 2) (written_same n done))
 
-    pub proof-reads : (new : List ℕ) → ((n : ℕ) → r ≡ Ok n → proof_of 2 b.place.f (take n new) ≡ Ok (proof_in b.window low high))
+    pub proof-reads : (new : List ℕ) → ((n : ℕ) → r ≡ Ok n → proof_of 2 b.place.size.f (take n new) ≡ Ok (proof_in b.window low high))
         → (n : ℕ) → r ≡ Ok n → proof_of 2 f (take n new) ≡ Ok (proof_body digest tag f own es low high)
     proof-reads new back n done = ap (λ k. proof_of 2 k (take n new)) (sym st.faults) ∙ back n done ∙ ap Ok (written_same n done)
 
-  pub proof_told : (old new : List ℕ) (r : Result ℕ Fault) → r ≡ proof_now b.window b.place.f b.count low high (length old)
+  pub proof_told : (old new : List ℕ) (r : Result ℕ Fault) → r ≡ proof_now b.window b.place.size.f b.count low high (length old)
       → new ≡ filled r (proof_bytes 2 (proof_in b.window low high)) old
-      → ((n : ℕ) → r ≡ Ok n → proof_of 2 b.place.f (take n new) ≡ Ok (proof_in b.window low high))
+      → ((n : ℕ) → r ≡ Ok n → proof_of 2 b.place.size.f (take n new) ≡ Ok (proof_in b.window low high))
       → Answered digest tag f own es (proved low high old new r) × ProofReadsBack digest tag f own es low high new r × Represents holds digest tag_of tag f own b (h ++ proved low high old new r ∷ [])
   proof_told old new r is put back = (
     (proof-answered (length old) r is, proof-filled (length old) r is old new put),

@@ -1,10 +1,11 @@
 -- Every commit of a history that boards make is a write set.
-use Rattle.std.proofs.Common.{◌≡◌, ℕ, List, [], ◌∷◌, ◌++◌, Ok, Err, Result, sym, refl, ap, ◌∙◌, subst}
+use Rattle.std.proofs.Common.{◌≡◌, ℕ, List, [], ◌∷◌, ◌++◌, Ok, Err, Option, Result, sym, refl, ap, ◌∙◌, subst}
 use Rattle.std.specs.List.{AllByRecursion as All}
 use Rattle.std.proofs.ByRecursion.{All-push}
 use Rattle.fault.specs.declared.Fault.{Fault}
-use Rattle.fault.specs.declared.Verdict.{Verdict}
-use Rattle.fault.specs.declared.Verdict.TheVariants.{Abort, Commit}
+use Rattle.fault.specs.declared.Verdict.TheVariants as verdict
+use Rattle.decision.specs.declared.Decision.{Decision}
+use Rattle.decision.specs.declared.Decision.TheVariants.{Abort, Commit}
 use Rattle.request.specs.Bodies.{RequestBody, WriteBody, read_request}
 use Rattle.share.specs.Shares.{ShareBody}
 use Rattle.history.specs.declared.Delivery.{Delivery}
@@ -27,13 +28,13 @@ sets_more h e ws one set sets =
     subst (All WriteSet) (sym (ap commits (effects_push h e) ∙ commits_push (effects h) (effect e) ∙ ap (λ (cs : List (List WriteBody)). commits (effects h) ++ cs) one))
     (All-push WriteSet (commits (effects h)) ws sets set)
 
--- a verdict on a request whose writes are a write set
-pub sets_verdict : (h : List Event) (frame : List ℕ) (b : RequestBody) (v : Verdict) (version opened : ℕ) → read_request width frame ≡ Ok b → WriteSet b.writes
-    → WriteSets h → WriteSets (h ++ delivered frame (Ok (record { verdict = v; version = version; opened = opened })) ∷ [])
-sets_verdict h frame b Commit version opened read set sets =
-    sets_more h (delivered frame (Ok (record { verdict = Commit; version = version; opened = opened }))) b.writes (ap (λ (r : Result RequestBody Fault). write_set (verdict_effect r Commit)) read) set sets
-sets_verdict h frame b Abort version opened read set sets =
-    sets_quiet h (delivered frame (Ok (record { verdict = Abort; version = version; opened = opened }))) (ap (λ (r : Result RequestBody Fault). write_set (verdict_effect r Abort)) read) sets
+-- a decision on a request whose writes are a write set
+pub sets_verdict : (h : List Event) (frame : List ℕ) (b : RequestBody) (d : Decision) (opened : Option ℕ) → read_request width frame ≡ Ok b → WriteSet b.writes
+    → WriteSets h → WriteSets (h ++ delivered frame (Ok (record { decision = d; opened = opened })) ∷ [])
+sets_verdict h frame b (Commit version) opened read set sets =
+    sets_more h (delivered frame (Ok (record { decision = Commit version; opened = opened }))) b.writes (ap (λ (r : Result RequestBody Fault). write_set (verdict_effect r verdict.Commit)) read) set sets
+sets_verdict h frame b Abort opened read set sets =
+    sets_quiet h (delivered frame (Ok (record { decision = Abort; opened = opened }))) (ap (λ (r : Result RequestBody Fault). write_set (verdict_effect r verdict.Abort)) read) sets
 
 -- a refused delivery
 pub sets_refused : (h : List Event) (frame : List ℕ) (r : Result Delivery Fault) (e : Fault) → r ≡ Err e → WriteSets h → WriteSets (h ++ delivered frame r ∷ [])

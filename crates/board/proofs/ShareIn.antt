@@ -55,7 +55,7 @@ module _ {S D L : Type 0} (holds : S → ℕ → Slot) (digest : List ℕ → Li
   pair = record { signer = s.signer; tag = s.tag }
 
   low16 : s.signer < 16
-  low16 = board-few f s.signer member (subst (λ k. k ≤ 5) st.faults b.place.few)
+  low16 = board-few f s.signer member (subst (λ k. k ≤ 5) st.faults b.place.size.few)
 
   decides_above : Decides (ltb b.count s.version) (length (commits es) < s.version)
   decides_above = (let P : ℕ → Type 0 = λ n. Decides (ltb b.count s.version) (n < s.version) in subst P st.count (decides_lt b.count s.version))
@@ -71,16 +71,16 @@ module _ {S D L : Type 0} (holds : S → ℕ → Slot) (digest : List ℕ → Li
     decides_sent = (let P : Option (List ℕ) → Type 0 = λ o. Decides (is_some o) (Has (signers_of s.version es) s.signer) in
         subst P (sym (h.tags s.signer low16)) (tag_decides (shares_of s.version es) s.signer))
 
-    decides_full : Decides (ltb b.place.f (shares_in b.window s.version)) (f + 1 ≤ length (shares_of s.version es))
+    decides_full : Decides (ltb b.place.size.f (shares_in b.window s.version)) (f + 1 ≤ length (shares_of s.version es))
     decides_full = (
-      (λ e. up (ltb-true b.place.f (shares_in b.window s.version) e)),
-      λ le. lt-ltb b.place.f (shares_in b.window s.version) (down le),
+      (λ e. up (ltb-true b.place.size.f (shares_in b.window s.version) e)),
+      λ le. lt-ltb b.place.size.f (shares_in b.window s.version) (down le),
     )
       where
-        up : b.place.f < shares_in b.window s.version → f + 1 ≤ length (shares_of s.version es)
+        up : b.place.size.f < shares_in b.window s.version → f + 1 ≤ length (shares_of s.version es)
         up lt = omega (arith, lt, st.faults, h.count)
 
-        down : f + 1 ≤ length (shares_of s.version es) → b.place.f < shares_in b.window s.version
+        down : f + 1 ≤ length (shares_of s.version es) → b.place.size.f < shares_in b.window s.version
         down le = omega (arith, le, st.faults, h.count)
 
     same_tag : tag_of b.seal s.signer (labelled Entry (entry_bytes 2 (entry_in b.window s.version))) ≡ tag s.signer (sealed_string digest (commits es) s.version)
@@ -111,14 +111,14 @@ module _ {S D L : Type 0} (holds : S → ℕ → Slot) (digest : List ℕ → Li
 
   abbrev pub Judged : Result ℕ Fault → Type 0
   Judged r =
-      Joins (kept_now b.count s.version) (due_now b.window b.place.f s.version s.signer)
+      Joins (kept_now b.count s.version) (due_now b.window b.place.size.f s.version s.signer)
       (s.tag ≡ tag_of b.seal s.signer (labelled Entry (entry_bytes 2 (entry_in b.window s.version))))
       (Added b.window c.window s.version s.signer s.tag) r
 
   pub share_in_answered : (r : Result ℕ Fault) → Judged r → Under (share_table digest tag f own es s) (λ n. n ≡ length (shares_of s.version es) + 1) r
   share_in_answered r j =
       joins_under (ltb b.count s.version) (leb (s.version + 32) b.count) (is_some (tag_in b.window s.version s.signer))
-      (ltb b.place.f (shares_in b.window s.version)) (length (commits es) < s.version) (s.version + 32 ≤ length (commits es))
+      (ltb b.place.size.f (shares_in b.window s.version)) (length (commits es) < s.version) (s.version + 32 ≤ length (commits es))
       (Has (signers_of s.version es) s.signer) (f + 1 ≤ length (shares_of s.version es))
       (s.tag ≡ tag_of b.seal s.signer (labelled Entry (entry_bytes 2 (entry_in b.window s.version))))
       (s.tag ≡ tag s.signer (sealed_string digest (commits es) s.version))
@@ -139,7 +139,7 @@ module _ {S D L : Type 0} (holds : S → ℕ → Slot) (digest : List ℕ → Li
       let v = s.version in
       let cs = commits es in
       let more = es ++ share v pair ∷ [] in
-      let ok = joins_ok (ltb b.count v) (leb (v + 32) b.count) (is_some (tag_in b.window v s.signer)) (ltb b.place.f (shares_in b.window v))
+      let ok = joins_ok (ltb b.count v) (leb (v + 32) b.count) (is_some (tag_in b.window v s.signer)) (ltb b.place.size.f (shares_in b.window v))
       (s.tag ≡ tag_of b.seal s.signer (labelled Entry (entry_bytes 2 (entry_in b.window v)))) (fault NotCommitted board-layer 0) (fault evicted board-layer 0)
       (fault NoShareDue board-layer 0) (Added b.window c.window v s.signer s.tag) n j in
       let a : Added b.window c.window v s.signer s.tag n = ok.5 in
@@ -151,7 +151,7 @@ module _ {S D L : Type 0} (holds : S → ℕ → Slot) (digest : List ℕ → Li
       subst P (sym (shares-share es v pair)) (holds_more h ok.2 (off (decides_full h) ok.3) n a)) in
       stands_same holds digest tag_of tag f own c cs (commits more) (λ k. used k es) (λ k. used k more) (λ u. shares_of u more) (λ u. shares_of u more)
       (commits-share es v pair) (used-share es v pair) (λ u. refl) (record {
-        faults = ap (λ p. p.f) rest.place ∙ st.faults;
+        faults = ap (λ p. p.size.f) rest.place ∙ st.faults;
         number = ap (λ p. p.number) rest.place ∙ st.number;
         seal = λ i m. ap (λ x. tag_of x i m) rest.seal ∙ st.seal i m;
         count = rest.count ∙ st.count;

@@ -52,7 +52,7 @@ module _ {S D L : Type 0} (holds : S → ℕ → Slot) (digest : List ℕ → Li
 
   abbrev Joined : ShareBody → Result ℕ Fault → Type 0
   Joined s r =
-      Joins (kept_now b.count s.version) (due_now b.window b.place.f s.version s.signer)
+      Joins (kept_now b.count s.version) (due_now b.window b.place.size.f s.version s.signer)
       (s.tag ≡ tag_of b.seal s.signer (labelled Entry (entry_bytes 2 (entry_in b.window s.version))))
       (Added b.window c.window s.version s.signer s.tag) r
 
@@ -92,8 +92,8 @@ module _ {S D L : Type 0} (holds : S → ℕ → Slot) (digest : List ℕ → Li
     taken s n is (stands-share holds digest tag_of tag f own b c (effects h) s st (member_of f s (reads.accepted s refl).1) (reads.accepted s refl).0.low n j rest),
   )
 
-  pub share_in_told : (r : Result ℕ Fault) → Read (read_share 2 b.place.f frame) Joined r
-      → ShareReads 2 b.place.f frame (read_share 2 b.place.f frame) → Refusal r (c ≡ b) → Rest b c → Told r
+  pub share_in_told : (r : Result ℕ Fault) → Read (read_share 2 b.place.size.f frame) Joined r
+      → ShareReads 2 b.place.size.f frame (read_share 2 b.place.size.f frame) → Refusal r (c ≡ b) → Rest b c → Told r
   share_in_told r j reads refused rest =
       (let P : ℕ → Type 0 = λ k. Read (read_share 2 k frame) Joined r → ShareReads 2 k frame (read_share 2 k frame) → Told r in
       subst P (sym st.faults) (λ j2 reads2. told (read_share 2 f frame) r refl reads2 j2 refused rest) j reads)

@@ -48,7 +48,7 @@ module _ {S D L : Type 0} (holds : S → ℕ → Slot) (digest : List ℕ → Li
       (λ c. ap (used c) es ∙ used-nothing (effects h) c) (λ v. ap (shares_of v) es ∙ shares-nothing (effects h) v) st
 
   -- a board that was just made stands at no commits
-  pub stands-new : b.place.f ≡ f → b.place.number ≡ own → ((s : ℕ) (m : List ℕ) → tag_of b.seal s m ≡ tag s m) → b.count ≡ 0
+  pub stands-new : b.place.size.f ≡ f → b.place.number ≡ own → ((s : ℕ) (m : List ℕ) → tag_of b.seal s m ≡ tag s m) → b.count ≡ 0
       → b.chain ≡ replicate 32 0 → ((x : ℕ) → x < 64 → holds b.store x ≡ blank) → TracksAll width b.clients (λ c. [])
       → Represents holds digest tag_of tag f own b []
   stands-new faults number seal count chain items clients =

@@ -1,6 +1,5 @@
 pub mod WriteSets
 pub mod Standing
-pub mod Said
 pub mod Shares
 pub mod Delivering
 pub mod Proofs

@@ -26,7 +26,7 @@ module _ {S D L : Type 0} (holds : S → ℕ → Slot) (digest : List ℕ → Li
   -- A board stands at commits cs, where us are the numbers that each client used and ps the shares of each version.
   -- `tag` is what its seal means, f how many boards may lie, own its number.
   pub record Stands (tag : ℕ → List ℕ → List ℕ) (f own : ℕ) (b : Board S D L) (cs : List (List WriteBody)) (us : ℕ → List ℕ) (ps : ℕ → List PairBody) : Type 0 where
-    pub faults : b.place.f ≡ f
+    pub faults : b.place.size.f ≡ f
     pub number : b.place.number ≡ own
     pub seal : (s : ℕ) (m : List ℕ) → tag_of b.seal s m ≡ tag s m
     pub count : b.count ≡ length cs

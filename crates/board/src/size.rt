@@ -1,14 +1,15 @@
 // A board's place among the boards, checked before a board is made from it.
-ghost use Rattle.std.specs.Prelude.{◌+◌, ◌*◌, ◌<◌, ◌≤◌};
+ghost use Rattle.std.specs.Prelude.{◌<◌};
+ghost use Rattle.cluster_size.specs.Sizes.{members};
+
+use cluster_size::ClusterSize;
 
 pub mod check;
 
-// Of 3f + 1 boards up to f may lie; a board's number is below that.
+// A board's number is below the number of boards.
 #[derive(Clone, Copy)]
 pub struct Place {
-    f: u8,
+    size: ClusterSize,
     number: u8,
-    ghost some: { 1 ≤ f },
-    ghost few: { f ≤ 5 },
-    ghost member: { number < 3 * f + 1 },
+    ghost member: { number < members size.f },
 }

@@ -3,6 +3,7 @@ ghost use Rattle.std.specs.Prelude.{◌≡◌, ◌≤◌, length};
 ghost use Rattle.octets.specs.Numbers.{limit};
 
 use crate::size::Place;
+pub use bank::state::Mark;
 use numbers::clients::Clients;
 use window::ring::Window;
 
@@ -25,11 +26,4 @@ pub struct Board<S, D, L> {
     window: Window,
     ghost few: { count ≤ limit 2 },
     ghost whole: { length chain ≡ 32 },
-}
-
-// The count of commits and the chain, by which boards are compared.
-#[derive(Clone, Copy)]
-pub struct Mark {
-    pub count: u32,
-    pub chain: [u8; 32],
 }

@@ -4,8 +4,8 @@ use Rattle.std.proofs.lemmas.List.{append-nil, append_assoc, length-append, nil_
 use Rattle.std.specs.List.{AllByRecursion as All}
 use Rattle.octets.specs.Numbers.{limit}
 use Rattle.fault.specs.declared.Fault.{Fault}
-use Rattle.fault.specs.declared.Verdict.{Verdict}
-use Rattle.fault.specs.declared.Verdict.TheVariants.{Abort, Commit}
+use Rattle.decision.specs.declared.Decision.{Decision}
+use Rattle.decision.specs.declared.Decision.TheVariants.{Abort, Commit}
 use Rattle.label.specs.declared.Label.TheVariants.{Request}
 use Rattle.label.specs.Labels.{labelled}
 use Rattle.numbers.specs.Sequence.{Open, opens}
@@ -24,17 +24,17 @@ use Rattle.history.proofs.Deciding.{either_le, either_not, either_open, either_s
 use Rattle.history.proofs.Tables.{Decided, under_alike, under-once}
 
 module _ (digest : List ℕ → List ℕ) (tag : ℕ → List ℕ → List ℕ) (f own : ℕ) where
-  judged-once : (es : List Effect) (b : RequestBody) (u v : Verdict) (m n : ℕ) → Judged digest tag f own es b u m → Judged digest tag f own es b v n → (u ≡ v) × (m ≡ n)
-  judged-once es b Commit Commit m n p q = (refl, p.1 ∙ sym q.1)
-  judged-once es b Commit Abort m n p q = absurd (q.0 p.0)
-  judged-once es b Abort Commit m n p q = absurd (p.0 q.0)
-  judged-once es b Abort Abort m n p q = (refl, p.1 ∙ sym q.1)
+  judged-once : (es : List Effect) (b : RequestBody) (u v : Decision) → Judged digest tag f own es b u → Judged digest tag f own es b v → u ≡ v
+  judged-once es b (Commit m) (Commit n) p q = ap (λ k. Commit k) (p.1 ∙ sym q.1)
+  judged-once es b (Commit m) Abort p q = absurd (q p.0)
+  judged-once es b Abort (Commit n) p q = absurd (p q.0)
+  judged-once es b Abort Abort p q = refl
 
   delivers_once : (es : List Effect) (b : RequestBody) (d e : Delivery) → Delivers digest tag f own es b d → Delivers digest tag f own es b e → d ≡ e
   delivers_once es b d e (p, q) (p', q') =
-      let same = judged-once es b d.verdict e.verdict d.version e.version p p' in
+      let same = judged-once es b d.decision e.decision p p' in
       let last = q ∙ sym q' in
-      λ i. record { verdict = same.0 i; version = same.1 i; opened = last i }
+      λ i. record { decision = same i; opened = last i }
 
   pub deliver-decided : (es : List Effect) (frame : List ℕ) (b : RequestBody) → Decided (deliver_table digest tag f own es frame b)
   deliver-decided es frame b = (
@@ -58,9 +58,9 @@ module _ (digest : List ℕ → List ℕ) (tag : ℕ → List ℕ → List ℕ) 
       go (Ok b) u v = under-once (deliver_table digest tag f own es frame b) (Delivers digest tag f own es b) (deliver-decided es frame b) (delivers_once es b) r s u v
       go (Err e) u v = u ∙ sym v
 
-  judged-same : (es fs : List Effect) (b : RequestBody) (v : Verdict) (n : ℕ) → commits es ≡ commits fs → Judged digest tag f own es b v n → Judged digest tag f own fs b v n
-  judged-same es fs b Commit n e p = subst (λ cs. All (Passes digest cs) b.reads × (n ≡ length cs + 1)) e p
-  judged-same es fs b Abort n e p = subst (λ cs. (All (Passes digest cs) b.reads → ⊥) × (n ≡ 0)) e p
+  judged-same : (es fs : List Effect) (b : RequestBody) (d : Decision) → commits es ≡ commits fs → Judged digest tag f own es b d → Judged digest tag f own fs b d
+  judged-same es fs b (Commit n) e p = subst (λ cs. All (Passes digest cs) b.reads × (n ≡ length cs + 1)) e p
+  judged-same es fs b Abort e p = subst (λ cs. All (Passes digest cs) b.reads → ⊥) e p
 
   -- it follows from the commits and the used numbers
   pub deliver-same : (es fs : List Effect) (frame : List ℕ) (r : Result Delivery Fault) → Same es fs → DeliverAnswers digest tag f own es frame r → DeliverAnswers digest tag f own fs frame r
@@ -83,7 +83,7 @@ module _ (digest : List ℕ → List ℕ) (tag : ℕ → List ℕ → List ℕ) 
               ((λ le. omega arith), (λ le. omega arith), refl, tt),
             ),
           )
-          (λ d p. (judged-same es fs b d.verdict d.version same.commits p.0, p.1 ∙ ap (opens width) mine)) r u
+          (λ d p. (judged-same es fs b d.decision same.commits p.0, p.1 ∙ ap (opens width) mine)) r u
       go (Err e) u = u
 
 -- two boards with the same commits and used numbers answer a frame the same, whatever f and their numbers are

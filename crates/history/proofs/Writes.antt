@@ -1,8 +1,7 @@
 -- What a write set writes to an item, write by write, and a store that installs one write after the other.
-use Rattle.std.proofs.Common.{◌≡◌, ℕ, zero, suc, ◌+◌, ◌<◌, ◌≤◌, Bool, true, false, cond, eqb, List, [], ◌∷◌, ◌++◌, length, get_or, take, Some, None, Option, sym, refl, ap, ◌∙◌, inl, inr, le_of_suc-le-suc, not-suc-le-zero, arith}
+use Rattle.std.proofs.Common.{◌≡◌, ℕ, zero, suc, ◌<◌, Bool, true, false, cond, eqb, List, [], ◌∷◌, ◌++◌, length, get_or, Some, None, Option, sym, refl, ap, ◌∙◌, inl, inr, le_of_suc-le-suc, not-suc-le-zero, arith}
 use Rattle.std.specs.List.{ContainsAt as Has, AllByRecursion as All}
 use Rattle.std.proofs.ByRecursion.{All-from_get_or, has_append_right}
-use Rattle.std.proofs.lemmas.List.{take_more, take_all}
 use Rattle.std.proofs.lemmas.Bool.{cases_eq, eq-eqb, ne_eqb}
 use Rattle.request.specs.Bodies.{WriteBody}
 use Rattle.history.specs.Commits.{Left, leave, written}
@@ -90,26 +89,21 @@ written_from [] x v e =
     absurd (omega arith)
 written_from (w ∷ ws) x v e = from_step w ws x v (written ws x) (written_from ws x v) (sym (written_cons w ws x) ∙ e)
 
--- A loop over the writes ws of commit k, at one item x: m says what is held for what is left there, l is what was left before the loop.
-module _ {Y : Type 0} (m : Left → Y) (k : ℕ) (ws : List WriteBody) (x : ℕ) (l : Left) where
-  pub install_none : m l ≡ m (leave k (written (take 0 ws) x) l)
+-- A loop over the writes of commit k, at one item x: m says what is held for what is left there, l is what was left before the loop, done the writes so far.
+module _ {Y : Type 0} (m : Left → Y) (k : ℕ) (x : ℕ) (l : Left) where
+  pub install_none : m l ≡ m (leave k (written [] x) l)
   unfolding written
   install_none = refl
 
-  pub install_more : (i : ℕ) (w : WriteBody) (mid new : Y) → i < length ws → w ≡ get_or ws i w
-      → mid ≡ m (leave k (written (take i ws) x) l)
+  pub install_more : (done : List WriteBody) (w : WriteBody) (mid new : Y)
+      → mid ≡ m (leave k (written done x) l)
       → (x ≡ w.item → new ≡ m (record { version = k; value = w.value }))
       → ((x ≡ w.item → ⊥) → new ≡ mid)
-      → new ≡ m (leave k (written (take (i + 1) ws) x) l)
-  install_more i w mid new within read is sets others =
-      let more : take (i + 1) ws ≡ take i ws ++ w ∷ [] = take_more ws i w within ∙ ap (λ u. take i ws ++ u ∷ []) (sym read) in
-      elim (cases_eq x w.item) [
-        | inl e ↦ sets e ∙ sym (ap (λ o. m (leave k o l)) (ap (λ us. written us x) more ∙ written_push_same (take i ws) w x e))
-        | inr ne ↦ others ne ∙ is ∙ sym (ap (λ o. m (leave k o l)) (ap (λ us. written us x) more ∙ written_push_other (take i ws) w x ne))
-      ]
-
-  pub install_all : (i : ℕ) (mid : Y) → length ws ≤ i → mid ≡ m (leave k (written (take i ws) x) l) → mid ≡ m (leave k (written ws x) l)
-  install_all i mid le is = is ∙ ap (λ us. m (leave k (written us x) l)) (take_all i ws le)
+      → new ≡ m (leave k (written (done ++ w ∷ []) x) l)
+  install_more done w mid new is sets others = elim (cases_eq x w.item) [
+    | inl e ↦ sets e ∙ sym (ap (λ o. m (leave k o l)) (written_push_same done w x e))
+    | inr ne ↦ others ne ∙ is ∙ sym (ap (λ o. m (leave k o l)) (written_push_other done w x ne))
+  ]
 
 -- one write of commit k, put over what the items hold
 abbrev pub put : ℕ → WriteBody → (ℕ → Left) → ℕ → Left

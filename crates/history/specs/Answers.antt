@@ -2,8 +2,8 @@
 use Rattle.std.specs.Prelude.{◌≡◌, ℕ, ◌+◌, ◌<◌, ◌≤◌, max, ◌⊎◌, List, [], ◌∷◌, ◌++◌, map, length, take, Ok, Result}
 use Rattle.std.specs.List.{ContainsAt as Has, flat_map, AllByRecursion}
 use Rattle.fault.specs.declared.Fault.{Fault}
-use Rattle.fault.specs.declared.Verdict.{Verdict}
-use Rattle.fault.specs.declared.Verdict.TheVariants.{Abort, Commit}
+use Rattle.decision.specs.declared.Decision.{Decision}
+use Rattle.decision.specs.declared.Decision.TheVariants.{Abort, Commit}
 use Rattle.fault.specs.declared.Cause.TheVariants.{BankFull, Evicted, Malformed, NoRoom, NoShareDue, NotCommitted, NotOpen, Unsealed, WrongTag}
 use Rattle.fault.specs.declared.Layer.TheVariants.{Board, Frame, Seal}
 use Rattle.fault.specs.Codes.{fault}
@@ -52,13 +52,13 @@ module _ (digest : List ℕ → List ℕ) (tag : ℕ → List ℕ → List ℕ) 
       ∷ when (limit width ≤ length (commits es)) (fault BankFull Board 0)
       ∷ []
 
-  -- the verdict: a commit, the next, exactly when every read passes
-  abbrev pub Judged : List Effect → RequestBody → Verdict → ℕ → Type 0
-  Judged es b Commit version = AllByRecursion (Passes digest (commits es)) b.reads × (version ≡ length (commits es) + 1)
-  Judged es b Abort version = (AllByRecursion (Passes digest (commits es)) b.reads → ⊥) × (version ≡ 0)
+  -- the decision: a commit, the next, exactly when every read passes
+  abbrev pub Judged : List Effect → RequestBody → Decision → Type 0
+  Judged es b (Commit version) = AllByRecursion (Passes digest (commits es)) b.reads × (version ≡ length (commits es) + 1)
+  Judged es b Abort = AllByRecursion (Passes digest (commits es)) b.reads → ⊥
 
   abbrev pub Delivers : List Effect → RequestBody → Delivery → Type 0
-  Delivers es b d = Judged es b d.verdict d.version × (d.opened ≡ opens width (used b.client es))
+  Delivers es b d = Judged es b d.decision × (d.opened ≡ opens width (used b.client es))
 
   abbrev pub DeliverAnswers : List Effect → List ℕ → Result Delivery Fault → Type 0
   DeliverAnswers es frame r = Read (read_request width frame) (λ b. Under (deliver_table es frame b) (Delivers es b)) r

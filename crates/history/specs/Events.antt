@@ -4,6 +4,7 @@ use Rattle.fault.specs.declared.Fault.{Fault}
 use Rattle.fault.specs.declared.Verdict.{Verdict}
 use Rattle.fault.specs.declared.Verdict.TheVariants.{Abort, Commit}
 use Rattle.fault.specs.declared.Layer.TheVariants.{Frame}
+use Rattle.decision.specs.Decisions.{verdict_of}
 use Rattle.store.specs.Slot.{Slot}
 use Rattle.entry.specs.Bodies.{PairBody}
 use Rattle.record.specs.Formats.{formed}
@@ -43,7 +44,7 @@ share_effect (Ok s) = share s.version (record { signer = s.signer; tag = s.tag }
 share_effect (Err e) = nothing
 
 abbrev pub effect : Event → Effect
-effect (delivered frame (Ok d)) = verdict_effect (read_request width frame) d.verdict
+effect (delivered frame (Ok d)) = verdict_effect (read_request width frame) (verdict_of d.decision)
 effect (delivered frame (Err e)) = nothing
 effect (asked item r) = nothing
 effect (marked count chain) = nothing

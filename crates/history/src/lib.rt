@@ -2,12 +2,11 @@
 // its commits, the state they left, the entries, the chain, the numbers open and the shares.
 #![tactic(auto)]
 
-use fault::Verdict;
+use decision::Decision;
 
-// The answer to a delivery: the verdict, the version of a commit (0 for an abort) and the number opened (0 if none).
-#[derive(Clone, Copy)]
+// The answer to a delivery: what was decided, and the number opened, if one was left.
+#[derive(Clone, Copy, PartialEq, Eq, Debug)]
 pub struct Delivery {
-    pub verdict: Verdict,
-    pub version: u32,
-    pub opened: u32,
+    pub decision: Decision,
+    pub opened: Option<u32>,
 }

@@ -8,6 +8,7 @@ use Rattle.fault.specs.declared.Fault.{Fault}
 use Rattle.fault.specs.declared.Layer.TheVariants.{Frame}
 use Rattle.fault.specs.declared.Verdict.{Verdict}
 use Rattle.fault.specs.declared.Verdict.TheVariants.{Abort, Commit}
+use Rattle.decision.specs.Decisions.{verdict_of}
 use Rattle.record.specs.Formats.{formed}
 use Rattle.entry.specs.Bodies.{PairBody}
 use Rattle.window.specs.Shares.{pair_of, pairs_below}
@@ -100,7 +101,7 @@ module _ (digest : List ℕ → List ℕ) (tag : ℕ → List ℕ → List ℕ) 
       go (Err x) e u = absurd (ok_err n x u)
 
   stamped_event : (es : List Effect) (e : Event) → AllStamped digest tag es → Answered digest tag f own es e → AllStamped digest tag (es ++ effect e ∷ [])
-  stamped_event es (delivered frame (Ok d)) old a = stamped_push digest tag es _ old (λ v one. verdict_none digest tag es _ d.verdict v)
+  stamped_event es (delivered frame (Ok d)) old a = stamped_push digest tag es _ old (λ v one. verdict_none digest tag es _ (verdict_of d.decision) v)
   stamped_event es (delivered frame (Err x)) old a = stamped_push digest tag es nothing old (λ v one. tt)
   stamped_event es (asked item r) old a = stamped_push digest tag es nothing old (λ v one. tt)
   stamped_event es (marked n c) old a = stamped_push digest tag es nothing old (λ v one. tt)

@@ -2,8 +2,10 @@
 use Rattle.std.proofs.Common.{◌≡◌, ℕ, List, [], ◌∷◌, Ok, Err, Result, refl, subst, arith}
 use Rattle.std.specs.List.{AllByRecursion as All}
 use Rattle.fault.specs.declared.Fault.{Fault}
-use Rattle.fault.specs.declared.Verdict.{Verdict}
-use Rattle.fault.specs.declared.Verdict.TheVariants.{Abort, Commit}
+use Rattle.fault.specs.declared.Verdict.TheVariants as verdict
+use Rattle.decision.specs.Decisions.{verdict_of}
+use Rattle.decision.specs.declared.Decision.{Decision}
+use Rattle.decision.specs.declared.Decision.TheVariants.{Abort, Commit}
 use Rattle.request.specs.Bodies.{RequestBody, read_request}
 use Rattle.history.specs.declared.Delivery.{Delivery}
 use Rattle.history.specs.Events.{Effect, Event, delivered, effects, width}
@@ -15,20 +17,20 @@ use Rattle.history.proofs.ReadLaws.{all_had_passes, all_passes_had}
 use Rattle.reader.proofs.Clear.{ok_clear, ok_err}
 use Rattle.promises.specs.Runs.{RightVerdict, RightVerdicts}
 
-commit-abort : Commit ≡ Abort → ⊥
+commit-abort : verdict.Commit ≡ verdict.Abort → ⊥
 commit-abort e = let z : ◌≡◌ {A = ℕ} 0 1 = cc in omega arith
 
-abort-commit : Abort ≡ Commit → ⊥
+abort-commit : verdict.Abort ≡ verdict.Commit → ⊥
 abort-commit e = let z : ◌≡◌ {A = ℕ} 0 1 = cc in omega arith
 
 module _ (digest : List ℕ → List ℕ) (tag : ℕ → List ℕ → List ℕ) (f own : ℕ) where
-  judged : (es : List Effect) (b : RequestBody) (v : Verdict) (n : ℕ) → Judged digest tag f own es b v n
-      → (v ≡ Commit → All (HadRead digest (commits es)) b.reads) × (All (HadRead digest (commits es)) b.reads → v ≡ Commit)
-      × (v ≡ Abort → All (HadRead digest (commits es)) b.reads → ⊥) × ((All (HadRead digest (commits es)) b.reads → ⊥) → v ≡ Abort)
-  judged es b Commit n (pass, _) =
+  judged : (es : List Effect) (b : RequestBody) (d : Decision) → Judged digest tag f own es b d
+      → (verdict_of d ≡ verdict.Commit → All (HadRead digest (commits es)) b.reads) × (All (HadRead digest (commits es)) b.reads → verdict_of d ≡ verdict.Commit)
+      × (verdict_of d ≡ verdict.Abort → All (HadRead digest (commits es)) b.reads → ⊥) × ((All (HadRead digest (commits es)) b.reads → ⊥) → verdict_of d ≡ verdict.Abort)
+  judged es b (Commit n) (pass, _) =
       let had = all_passes_had digest (commits es) b.reads pass in
       (λ _. had, λ _. refl, λ e. absurd (commit-abort e), λ none. absurd (none had))
-  judged es b Abort n (fail, _) =
+  judged es b Abort fail =
       let none : All (HadRead digest (commits es)) b.reads → ⊥ = λ had. fail (all_had_passes digest (commits es) b.reads had) in
       (λ e. absurd (abort-commit e), λ had. absurd (none had), λ _. none, λ _. refl)
 
@@ -40,7 +42,7 @@ module _ (digest : List ℕ → List ℕ) (tag : ℕ → List ℕ → List ℕ) 
           → Read q (λ b. Under (deliver_table digest tag f own es frame b) (Delivers digest tag f own es b)) (Ok d) → RightVerdict digest (commits es) frame d
       go (Ok b) e u =
           let delivers = (ok_clear (Delivers digest tag f own es b) (deliver_table digest tag f own es frame b) d u).1 in
-          let j = judged es b d.verdict d.version delivers.0 in
+          let j = judged es b d.decision delivers.0 in
           record { request = b; read = e; commit = j.0; commits = j.1; abort = j.2; aborts = j.3 }
       go (Err e) _ u = absurd (ok_err d e u)
 

@@ -1,9 +1,9 @@
 -- An instance of the promise on readings, over histories: four boards, two commits, a refused frame, a board that is behind,
 -- and a faulty board whose tags stand in the accepted proof. Digest, seal, commits, readings and proofs are those of the reader's instance.
-use Rattle.std.specs.Prelude.{◌≡◌, ℕ, ◌≤◌, cond, List, [], ◌∷◌, ◌++◌, length, take, drop, replicate, Ok, Err, ◌==◌}
+use Rattle.std.specs.Prelude.{◌≡◌, ℕ, ◌≤◌, cond, List, [], ◌∷◌, ◌++◌, length, take, drop, replicate, Some, Ok, Err, ◌==◌}
 use Rattle.fault.specs.declared.Cause.TheVariants.{Malformed, WrongTag}
 use Rattle.fault.specs.declared.Layer.TheVariants.{Frame, Seal}
-use Rattle.fault.specs.declared.Verdict.TheVariants.{Commit}
+use Rattle.decision.specs.declared.Decision.TheVariants.{Commit}
 use Rattle.fault.specs.Codes.{fault}
 use Rattle.label.specs.declared.Label.TheVariants.{Request}
 use Rattle.label.specs.Labels.{labelled}
@@ -54,7 +54,7 @@ abbrev pub bus : List (List ℕ)
 bus = frame_of one ∷ stray ∷ frame_of two ∷ []
 
 abbrev pub commit : ℕ → ℕ → Delivery
-commit k n = record { verdict = Commit; version = k; opened = n }
+commit k n = record { decision = Commit k; opened = Some n }
 
 -- what the boards that are not behind were delivered
 abbrev pub deliveries : List Event

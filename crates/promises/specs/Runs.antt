@@ -2,6 +2,7 @@
 use Rattle.std.specs.Prelude.{◌≡◌, ℕ, ◌<◌, min, List, [], ◌∷◌, ◌++◌, length, take, drop, Ok}
 use Rattle.std.specs.List.{AllByRecursion}
 use Rattle.fault.specs.declared.Verdict.TheVariants.{Abort, Commit}
+use Rattle.decision.specs.Decisions.{verdict_of}
 use Rattle.store.specs.Slot.{Slot}
 use Rattle.request.specs.Bodies.{RequestBody, WriteBody, read_request}
 use Rattle.history.specs.declared.Delivery.{Delivery}
@@ -9,7 +10,7 @@ use Rattle.history.specs.Events.{Event, delivered, effects, width}
 use Rattle.history.specs.Commits.{HadRead, commits, kept, left, shown}
 use Rattle.history.specs.Answers.{Answered, Lawful}
 use Rattle.board.specs.declared.state.Board.{Board}
-use Rattle.board.specs.Said.{item_now}
+use Rattle.bank.specs.Answers.{item_answer}
 use Rattle.board.specs.Standing.{Represents}
 use Rattle.board.specs.WriteSets.{WriteSets}
 use Rattle.promises.specs.declared.calls.Call.{Call}
@@ -22,10 +23,10 @@ use Rattle.promises.specs.Events.{Of, Ran}
 pub record RightVerdict (digest : List ℕ → List ℕ) (cs : List (List WriteBody)) (frame : List ℕ) (d : Delivery) : Type 0 where
   pub request : RequestBody
   pub read : read_request width frame ≡ Ok request
-  pub commit : d.verdict ≡ Commit → AllByRecursion (HadRead digest cs) request.reads
-  pub commits : AllByRecursion (HadRead digest cs) request.reads → d.verdict ≡ Commit
-  pub abort : d.verdict ≡ Abort → AllByRecursion (HadRead digest cs) request.reads → ⊥
-  pub aborts : (AllByRecursion (HadRead digest cs) request.reads → ⊥) → d.verdict ≡ Abort
+  pub commit : verdict_of d.decision ≡ Commit → AllByRecursion (HadRead digest cs) request.reads
+  pub commits : AllByRecursion (HadRead digest cs) request.reads → verdict_of d.decision ≡ Commit
+  pub abort : verdict_of d.decision ≡ Abort → AllByRecursion (HadRead digest cs) request.reads → ⊥
+  pub aborts : (AllByRecursion (HadRead digest cs) request.reads → ⊥) → verdict_of d.decision ≡ Abort
 
 -- each verdict in a history is right by the commits before it
 abbrev pub RightVerdicts : (List ℕ → List ℕ) → List Event → Type 0
@@ -37,7 +38,7 @@ module _ {S D L : Type 0} (holds : S → ℕ → Slot) (digest : List ℕ → Li
   -- Items and verdicts follow the commits of a history: each item of the store is what they left, and so is what the item call answers of it.
   pub record Follows (b : Board S D L) (h : List Event) : Type 0 where
     pub items : (x : ℕ) → x < 64 → holds b.store x ≡ kept digest (left (commits (effects h)) x)
-    pub asked : (x : ℕ) → x < 64 → item_now digest (holds b.store) x ≡ Ok (shown digest (left (commits (effects h)) x))
+    pub asked : (x : ℕ) → x < 64 → item_answer digest (holds b.store) x ≡ Ok (shown digest (left (commits (effects h)) x))
     pub verdicts : RightVerdicts digest h
 
   module _ (tag : ℕ → List ℕ → List ℕ) (f own : ℕ) where

@@ -6,7 +6,7 @@ use history::Delivery;
 use store::record::Record;
 
 // A call; one that writes is lent so many bytes of a buffer, or the whole of it.
-#[derive(Clone, Copy)]
+#[derive(Clone, Copy, PartialEq, Eq, Debug)]
 pub enum Call<'a> {
     Deliver(&'a [u8]),
     Item(u8),

@@ -1,6 +1,6 @@
 // Runs: calls made on a board one behind the other.
 ghost use Rattle.std.specs.Prelude.{◌≡◌, ℕ, List, []};
-ghost use Rattle.digest.specs.Meaning.{written};
+ghost use Rattle.digest.specs.Meaning.{bytes_by};
 ghost use Rattle.history.specs.Answers.{Lawful};
 ghost use Rattle.history.specs.Events.{Event};
 ghost use Rattle.board.specs.Standing.{Represents};
@@ -22,7 +22,7 @@ pub fn call<S: Store, D: Digest, L: Seal>(
     room: &mut [u8],
 ) -> Answer
     ensures refused { Refused result → (board.new ≡ board.old) × (room.new ≡ room.old) }
-    ensures history { (tag : ℕ → List ℕ → List ℕ) (f own : ℕ) (h : List Event) → Represents S.Store.holds (λ m. written (D.Digest.of m)) L.Seal.tag tag f own board.old h → WriteSets h → Called S.Store.holds (λ m. written (D.Digest.of m)) L.Seal.tag tag f own h call.entry result room.old room.new board.new }
+    ensures history { (tag : ℕ → List ℕ → List ℕ) (f own : ℕ) (h : List Event) → Represents S.Store.holds (bytes_by D.Digest.of) L.Seal.tag tag f own board.old h → WriteSets h → Called S.Store.holds (bytes_by D.Digest.of) L.Seal.tag tag f own h call.entry result room.old room.new board.new }
 {
     match call {
         Call::Deliver(frame) => Answer::Delivered(board.deliver(frame)),
@@ -54,9 +54,10 @@ pub fn run<S: Store, D: Digest, L: Seal>(
     answers: &mut [Answer],
     room: &mut [u8],
 ) -> usize
-    ensures { (tag : ℕ → List ℕ → List ℕ) (f own : ℕ) (h : List Event) → Represents S.Store.holds (λ m. written (D.Digest.of m)) L.Seal.tag tag f own board.old h → WriteSets h → Lawful (λ m. written (D.Digest.of m)) tag f own [] h → AllReadBack (λ m. written (D.Digest.of m)) tag f own [] h → Runs S.Store.holds (λ m. written (D.Digest.of m)) L.Seal.tag tag f own h calls.now answers.old answers.new room.old room.new board.new result }
+    ensures { (tag : ℕ → List ℕ → List ℕ) (f own : ℕ) (h : List Event) → Represents S.Store.holds (bytes_by D.Digest.of) L.Seal.tag tag f own board.old h → WriteSets h → Lawful (bytes_by D.Digest.of) tag f own [] h → AllReadBack (bytes_by D.Digest.of) tag f own [] h → Runs S.Store.holds (bytes_by D.Digest.of) L.Seal.tag tag f own h calls.now answers.old answers.new room.old room.new board.new result }
 {
     let count = calls.len().min(answers.len());
+    // By index: a proof knows only the length of a list that was written through `iter_mut` and `zip`.
     for i in 0..count {
         answers[i] = call(board, calls[i], room);
     }
@@ -70,7 +71,7 @@ pub fn run_new<S: Store, D: Digest, L: Seal>(
     answers: &mut [Answer],
     room: &mut [u8],
 ) -> (Board<S, D, L>, usize)
-    ensures { Runs S.Store.holds (λ m. written (D.Digest.of m)) L.Seal.tag (L.Seal.tag start.seal) start.place.f start.place.number [] calls.now answers.old answers.new room.old room.new result.0 result.1 }
+    ensures { Runs S.Store.holds (bytes_by D.Digest.of) L.Seal.tag (L.Seal.tag start.seal) start.place.size.f start.place.number [] calls.now answers.old answers.new room.old room.new result.0 result.1 }
 {
     let mut board = Board::new(start.place, start.memory, start.digest, start.seal);
     let count = run(&mut board, calls, answers, room);

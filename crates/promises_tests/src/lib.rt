@@ -5,19 +5,21 @@
 mod tests {
     use board::size::Place;
     use board::state::{Board, Mark};
+    use cluster_size::ClusterSize;
+    use decision::Decision;
     use digest::{Digest, Fnv};
-    use fault::{Cause, Fault, Verdict};
+    use fault::{Cause, Fault};
     use log_store::records::LogRecord;
     use log_store::{Log, LogMemory};
     use promises::calls::{Answer, Call, Start};
     use promises::marks::{deliver_both, runs_agree, same_marks};
     use promises::readings::{judge, run_and_judge};
     use promises::runs::run_new;
-    use reader::size::ReaderSize;
     use reader::state::Reader;
     use reading::draft::write_reading;
     use reading::part::ReadingDraft;
     use request::item::{ReadItem, WriteItem};
+    use sample_keys::sample_keys;
     use seal::sip::SipSeal;
     use sealed_request::{Unsealed, seal_request};
     use std::process::Abort;
@@ -27,21 +29,12 @@ mod tests {
     use store::record::Record;
     use store::table::Table;
 
-    // Signer s has a key of bytes s.
-    fn seal() -> SipSeal {
-        let mut keys = [[0u8; 32]; 32];
-        for s in 0..32 {
-            keys[s] = [s as u8; 32];
-        }
-        SipSeal::new(keys)
-    }
-
     fn start(number: u8) -> Result<Start<(), Fnv, SipSeal>, Fault> {
         Ok(Start {
             place: Place::new(1, number)?,
             memory: (),
             digest: Fnv,
-            seal: seal(),
+            seal: SipSeal::new(sample_keys()),
         })
     }
 
@@ -56,7 +49,7 @@ mod tests {
             place: Place::new(1, number)?,
             memory: LogMemory::new([LogRecord { item, row }; 65])?,
             digest: Fnv,
-            seal: seal(),
+            seal: SipSeal::new(sample_keys()),
         })
     }
 
@@ -76,7 +69,7 @@ mod tests {
             value: &value,
         }];
         seal_request(
-            &seal(),
+            &SipSeal::new(sample_keys()),
             Unsealed {
                 client: 0,
                 sequence: number,
@@ -95,14 +88,14 @@ mod tests {
 
     fn is_commit(answer: Answer, version: u32) -> bool {
         match answer {
-            Answer::Delivered(Ok(d)) => d.verdict == Verdict::Commit && d.version == version,
+            Answer::Delivered(Ok(d)) => d.decision == Decision::Commit { version },
             _ => false,
         }
     }
 
     fn is_abort(answer: Answer) -> bool {
         match answer {
-            Answer::Delivered(Ok(d)) => d.verdict == Verdict::Abort && d.version == 0,
+            Answer::Delivered(Ok(d)) => d.decision == Decision::Abort,
             _ => false,
         }
     }
@@ -246,7 +239,7 @@ mod tests {
             value: &bytes,
         };
         write_reading(&[read], &mut reading)?;
-        let reader = Reader::new(ReaderSize::new(1)?, Fnv, seal());
+        let reader = Reader::new(ClusterSize::new(1)?, Fnv, SipSeal::new(sample_keys()));
         let mut answers = [NOTHING; 6];
         let mut room = [0; 0];
         let mut proof = [0; 100];
@@ -316,7 +309,8 @@ mod tests {
             log.place, log.memory, log.digest, log.seal,
         );
         let (mine, theirs) = deliver_both(&mut one, &mut other, &first);
-        assert!(rt; mine?.version == 1 && theirs?.version == 1);
+        assert!(rt; mine?.decision == Decision::Commit { version: 1 });
+        assert!(rt; theirs?.decision == Decision::Commit { version: 1 });
         let (mine, theirs) = deliver_both(&mut one, &mut other, &first);
         assert!(rt; mine.is_err() && theirs.is_err());
         assert!(rt; same_marks(&one, &other) && one.mark().count == 1);

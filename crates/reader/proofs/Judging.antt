@@ -12,11 +12,11 @@ use Rattle.fault.specs.declared.Layer.TheVariants.{Reader}
 use Rattle.fault.specs.Codes.{fault}
 use Rattle.entry.specs.Bodies.{SealedBody}
 use Rattle.proof.specs.Bodies.{ProofBody}
-use Rattle.proof.specs.Parts.{FoundAt, Holds, PartHolds, entry_place}
+use Rattle.proof.specs.Parts.{FoundAt, PartHolds, entry_place}
 use Rattle.proof.specs.declared.part.SealedPart.{SealedPart}
 use Rattle.proof.specs.declared.read.Proof.{Proof}
 use Rattle.reading.specs.Bodies.{ReadingItemBody}
-use Rattle.reading.specs.Readings.{held, item_of, item_seen}
+use Rattle.reading.specs.Readings.{Found, held, item_of, item_seen}
 use Rattle.reading.specs.declared.Reading.{Reading}
 use Rattle.reading.specs.declared.ReadingItem.{ReadingItem}
 use Rattle.history.specs.Tables.{Under}
@@ -28,7 +28,7 @@ use Rattle.reader.specs.Tags.{Judges}
 use Rattle.reader.proofs.Clear.{along_clear, along-refused, clear_ok}
 use Rattle.reader.proofs.Ranges.{at_least_lowest, at_most-highest}
 use Rattle.reader.proofs.Rows.{item_clear}
-use Rattle.reader.proofs.Spots.{item_at, item_past, item-place, item_read}
+use Rattle.reader.proofs.Spots.{item_at, item-place, item_read}
 use Rattle.reader.proofs.Tagging.{FoundEntry, empty}
 
 -- entry k of a proof is of version low + k
@@ -82,25 +82,19 @@ module _ (digest : List ℕ → List ℕ) (reading : Reading) (proof : Proof) wh
   abbrev pub PassedItems : ℕ → Type 0
   PassedItems i = (bs : List ℕ) (f : ℕ) (b : ProofBody) → Judged reading proof bs f b → All (Passing b) (take i (held reading).items)
 
-  passed_judges : (i : ℕ) → ((bs : List ℕ) (f : ℕ) (b : ProofBody) → Judged reading proof bs f b → length (held reading).items ≤ i) → PassedItems i → JudgesItems digest reading proof (Ok tt)
+  pub passed_judges : (i : ℕ) → ((bs : List ℕ) (f : ℕ) (b : ProofBody) → Judged reading proof bs f b → length (held reading).items ≤ i) → PassedItems i → JudgesItems digest reading proof (Ok tt)
   passed_judges i past before bs f b judged =
       clear_ok (λ u. Unit {0}) (along read_item_bytes (item_rows digest b.entries) items_at (held reading).items) tt
       (along_clear read_item_bytes (item_rows digest b.entries) (Passing b) (item_clear digest b.entries) items_at (held reading).items
       (subst (λ (ps : List ReadingItemBody). All (Passing b) ps) (take_all i (held reading).items (past bs f b judged)) (before bs f b judged))) tt
 
-  pub passed_end : (i : ℕ) → item_seen None ≡ item_of reading i → PassedItems i → JudgesItems digest reading proof (Ok tt)
-  passed_end i e before = passed_judges i (λ bs f b judged. item_past reading i bs judged.found e) before
-
-  pub passed_all : (i n : ℕ) → n ≡ reading.plan.count → n ≤ i → PassedItems i → JudgesItems digest reading proof (Ok tt)
-  passed_all i n is le before = passed_judges i (λ bs f b judged. let c = judged.found.counted in omega arith) before
-
-  module _ (i : ℕ) (read : ReadingItem) (here : item_seen (Some read) ≡ item_of reading i) where
+  module _ (i : ℕ) (read : ReadingItem) (here : (bs : List ℕ) → Found bs reading → item_seen (Some read) ≡ item_of reading i) where
     -- the item read as the reading holds it
     abbrev item : ReadingItemBody
     item = item_read read
 
     at : (bs : List ℕ) (f : ℕ) (b : ProofBody) → Judged reading proof bs f b → (i < length (held reading).items) × ((d : ReadingItemBody) → get_or (held reading).items i d ≡ item)
-    at bs f b judged = item_at reading i bs judged.found read here
+    at bs f b judged = item_at reading i bs judged.found read (here bs judged.found)
 
     has-item : (bs : List ℕ) (f : ℕ) (b : ProofBody) → Judged reading proof bs f b → Has (held reading).items item
     has-item bs f b judged =
@@ -112,7 +106,7 @@ module _ (digest : List ℕ → List ℕ) (reading : Reading) (proof : Proof) wh
         → ((n : ℕ) → Under (item_rows digest b.entries n item) (λ (u : Unit {0}). Unit {0}) (Err (fault c Reader n)))
         → Judges (along read_item_bytes (item_rows digest b.entries) items_at (held reading).items) (Err (fault c Reader read.place))
     refused c bs f b judged before under =
-        let place = item-place reading i bs judged.found read here in
+        let place = item-place reading i bs judged.found read (here bs judged.found) in
         let it = at bs f b judged in
         along-refused read_item_bytes (item_rows digest b.entries) (Passing b) (λ u. Unit {0}) (item_clear digest b.entries) items_at i (held reading).items item (fault c Reader read.place) it.0 (before bs f b judged)
         (subst (λ (p : ReadingItemBody). Under (item_rows digest b.entries (items_at + length (flat_map read_item_bytes (take i (held reading).items))) p) (λ (u : Unit {0}). Unit {0}) (Err (fault c Reader read.place))) (sym (it.1 item))
@@ -158,9 +152,9 @@ module _ (digest : List ℕ → List ℕ) (reading : Reading) (proof : Proof) wh
       ]
 
       -- all entries agree: the item passes
-      pub agreed_all : (j n : ℕ) → ((f : ℕ) (b : ProofBody) → Holds f proof b → n ≡ length b.entries) → n ≤ j → Agreeing reading proof read d j → PassedItems i → PassedItems (i + 1)
-      agreed_all j n long le agreeing before bs f b judged =
-          let past : length b.entries ≤ j = let e = long f b judged.holds in omega arith in
+      pub agreed_all : (j : ℕ) → FoundEntry proof j None → Agreeing reading proof read d j → PassedItems i → PassedItems (i + 1)
+      agreed_all j found agreeing before bs f b judged =
+          let past : length b.entries ≤ j = found f b judged.holds in
           let it = at bs f b judged in
           let es = b.entries in
           let all = subst (λ (ss : List SealedBody). All (Agrees read.item read.version d) ss) (take_all j es past) (agreeing bs f b judged) in

@@ -1,20 +1,24 @@
 -- An item of a reading that is read in place, by its index: what it holds, where it stands, and the versions before it.
-use Rattle.std.proofs.Common.{◌≡◌, ℕ, zero, suc, ◌+◌, ◌<◌, ◌≤◌, min, max, List, [], ◌∷◌, map, length, get_or, take, Some, None, Option, sym, ap, ◌∙◌, subst, add-one, arith}
-use Rattle.std.specs.List.{slice_get, flat_map}
-use Rattle.std.proofs.lemmas.List.{length-append, take_all}
+use Rattle.std.proofs.Common.{◌≡◌, ℕ, zero, suc, ◌+◌, ◌<◌, ◌≤◌, min, max, List, [], ◌∷◌, map, length, get_or, take, Some, None, Option, sym, refl, ap, ◌∙◌, arith}
+use Rattle.std.specs.Iterator.{Yields, YieldsFirstBy}
+use Rattle.std.specs.Option.{MatchOption, option_map, unwrap_or}
+use Rattle.std.specs.List.{slice_get, flat_map, fold, reduce}
+use Rattle.std.proofs.lemmas.Iterator.Consumers.{YieldsList-from_first, nth_from_yields_List}
+use Rattle.std.proofs.lemmas.List.{length-append}
 use Rattle.record.specs.Rules.{Spot, spots}
 use Rattle.record.specs.Runs.{spotted}
 use Rattle.reading.specs.Bodies.{ReadingItemBody, read_item_item, reading_item_fields}
 use Rattle.reading.specs.Marks.{read_item_body, read_item_number, read_item_place}
 use Rattle.reading.specs.Plans.{planned}
-use Rattle.reading.specs.Readings.{Found, held, item_of, item_seen, item_view}
+use Rattle.record.specs.declared.records.Records.{Records}
+use Rattle.reading.specs.Readings.{Found, ItemsFound, held, item_of, item_seen, item_shown, item_view, item_views, items_left}
 use Rattle.reading.specs.declared.mark.ItemAt.{ItemAt}
 use Rattle.reading.specs.declared.Reading.{Reading}
 use Rattle.reading.specs.declared.ReadingItem.{ReadingItem}
 use Rattle.history.specs.Events.{width}
 use Rattle.reader.specs.Checks.{highest, items_at, lowest, read_item_bytes}
 
-abbrev View : Type 0
+abbrev pub View : Type 0
 View = ReadingItemBody × ℕ
 
 some_view : {A : Type 0} → (v : View) → ◌≡◌ {A = Option View} (Some v) None → A
@@ -63,63 +67,41 @@ module _ (q : Reading) (i : ℕ) (bs : List ℕ) (found : Found bs q) where
   pub item_past : item_seen None ≡ item_of q i → length (held q).items ≤ i
   item_past e = view_past q.frame.now (planned q.plan).items i (e ∙ found.each_item i)
 
--- the highest and the lowest version of one item more
-highest-suc : (ps : List ReadingItemBody) (i : ℕ) (d : ReadingItemBody) → i < length ps → highest (take (suc i) ps) ≡ max (highest (take i ps)) (get_or ps i d).version
-highest-suc [] i d lt = absurd (omega arith)
-highest-suc (p ∷ ps) zero d lt = omega arith
-highest-suc (p ∷ ps) (suc i) d lt = let ih = highest-suc ps i d (omega arith) in omega arith
+-- the item that comes behind others is that at their count, and none comes behind the last
+pub item_came : {q : Reading} {first it : Records ItemAt} (t : Records ItemAt) (xs : List ReadingItem) (o : Option ReadingItem) (u : Records ItemAt) → (ItemsFound q → items_left first ≡ item_views q) → it ≡ first
+    → Yields (YieldsFirstBy item_shown items_left) it xs t → YieldsFirstBy item_shown items_left t o u → (bs : List ℕ) → Found bs q → item_seen o ≡ item_of q (length xs)
+item_came {q} {first} {it} t xs o u start same e gives bs found =
+    seen o ∙ nth_from_yields_List o u (length xs) (xs, (t, e, gives), counted o) (YieldsList-from_first item_shown items_left (item_views q) (ap items_left same ∙ start found.each_item)) ∙ sym (found.each_item (length xs))
+  where
+    seen : (r : Option ReadingItem) → item_seen r ≡ option_map item_shown r
+    seen (Some r) = refl
+    seen None = refl
 
-lowest-suc : (ps : List ReadingItemBody) (i : ℕ) (d : ReadingItemBody) → suc i < length ps → lowest (take (suc (suc i)) ps) ≡ min (lowest (take (suc i) ps)) (get_or ps (suc i) d).version
-lowest-suc [] i d lt = absurd (omega arith)
-lowest-suc (p ∷ []) i d lt = absurd (omega arith)
-lowest-suc (p ∷ (q ∷ ps)) zero d lt = omega arith
-lowest-suc (p ∷ (q ∷ ps)) (suc i) d lt = let ih = lowest-suc (q ∷ ps) i d (omega arith) in omega arith
+    counted : (r : Option ReadingItem) → MatchOption r (length xs ≤ length xs) (λ _. length xs ≡ length xs)
+    counted (Some r) = refl
+    counted None = omega arith
 
-module _ (q : Reading) where
-  abbrev pub HighestOf : ℕ → ℕ → Type 0
-  HighestOf i high = (bs : List ℕ) → Found bs q → high ≡ highest (take i (held q).items)
+-- the highest and the lowest version, as they are picked one after the other
+abbrev pub version_read : ReadingItemBody → ℕ
+version_read p = p.version
 
-  abbrev pub LowestOf : ℕ → ℕ → Type 0
-  LowestOf i low = (bs : List ℕ) → Found bs q → low ≡ lowest (take i (held q).items)
+highest-from : (a : ℕ) (ps : List ReadingItemBody) → fold max a (map version_read ps) ≡ max a (highest ps)
+highest-from a [] = omega arith
+highest-from a (p ∷ ps) = highest-from (max a p.version) ps ∙ omega arith
 
-  -- no item stands behind the first i
-  abbrev pub AllBefore : ℕ → Type 0
-  AllBefore i = (bs : List ℕ) → Found bs q → length (held q).items ≤ i
+lowest-from : (a : ℕ) (p : ReadingItemBody) (ps : List ReadingItemBody) → fold min a (map version_read (p ∷ ps)) ≡ min a (lowest (p ∷ ps))
+lowest-from a p [] = refl
+lowest-from a p (q ∷ ps) = lowest-from (min a p.version) q ps ∙ omega arith
 
-  pub all_counted : (i n : ℕ) → n ≡ q.plan.count → n ≤ i → AllBefore i
-  all_counted i n is le bs found = let c = found.counted in omega arith
+pub highest-picked : (ps : List ReadingItemBody) → unwrap_or (reduce max (map version_read ps)) 0 ≡ highest ps
+highest-picked [] = refl
+highest-picked (p ∷ ps) = highest-from p.version ps
 
-  pub highest_all : (i high : ℕ) → AllBefore i → HighestOf i high → (bs : List ℕ) → Found bs q → high ≡ highest (held q).items
-  highest_all i high all sofar bs found = sofar bs found ∙ ap highest (take_all i (held q).items (all bs found))
+pub lowest-picked : (ps : List ReadingItemBody) → unwrap_or (reduce min (map version_read ps)) 0 ≡ lowest ps
+lowest-picked [] = refl
+lowest-picked (p ∷ []) = refl
+lowest-picked (p ∷ (q ∷ ps)) = lowest-from p.version q ps
 
-  pub lowest_all : (i low : ℕ) → AllBefore i → LowestOf i low → (bs : List ℕ) → Found bs q → low ≡ lowest (held q).items
-  lowest_all i low all sofar bs found = sofar bs found ∙ ap lowest (take_all i (held q).items (all bs found))
-
-  module _ (i : ℕ) (r : ReadingItem) (e : item_seen (Some r) ≡ item_of q i) where
-    pub highest-more : (high next : ℕ) → next ≡ max high r.version → HighestOf i high → HighestOf (i + 1) next
-    highest-more high next is sofar bs found =
-        let at = item_at q i bs found r e in
-        let v = ap (λ (p : ReadingItemBody). p.version) (at.1 (item_read r)) in
-        let one = highest-suc (held q).items i (item_read r) at.0 in
-        let h = sofar bs found in
-        rw add-one (omega arith)
-
-    pub lowest-first : i ≡ 0 → LowestOf 1 r.version
-    lowest-first z bs found = first (held q).items (subst (λ k. k < length (held q).items) z at.0) (sym (ap (λ (p : ReadingItemBody). p.version) (subst (λ k. get_or (held q).items k (item_read r) ≡ item_read r) z (at.1 (item_read r)))))
-      where
-        at : (i < length (held q).items) × ((d : ReadingItemBody) → get_or (held q).items i d ≡ item_read r)
-        at = item_at q i bs found r e
-
-        first : (ps : List ReadingItemBody) → 0 < length ps → r.version ≡ (get_or ps 0 (item_read r)).version → r.version ≡ lowest (take 1 ps)
-        first [] lt v = absurd (omega arith)
-        first (p ∷ ps) lt v = v
-
-    pub lowest-more : (low next : ℕ) → 1 ≤ i → next ≡ min low r.version → LowestOf i low → LowestOf (i + 1) next
-    lowest-more low next from is sofar bs found = go i from (item_at q i bs found r e) (sofar bs found)
-      where
-        go : (k : ℕ) → 1 ≤ k → (k < length (held q).items) × ((d : ReadingItemBody) → get_or (held q).items k d ≡ item_read r) → low ≡ lowest (take k (held q).items) → next ≡ lowest (take (k + 1) (held q).items)
-        go zero from at h = absurd (omega arith)
-        go (suc k) from at h =
-            let v = ap (λ (p : ReadingItemBody). p.version) (at.1 (item_read r)) in
-            let one = lowest-suc (held q).items k (item_read r) at.0 in
-            rw add-one (omega arith)
+pub versions_seen : (bs : List ℕ) (ms : List ItemAt) → map (λ (v : View). v.0.version) (map (item_view bs) ms) ≡ map version_read (map (read_item_body 2 bs) ms)
+versions_seen bs [] = refl
+versions_seen bs (m ∷ ms) = ap (λ ns. (read_item_body 2 bs m).version ∷ ns) (versions_seen bs ms)

@@ -1,5 +1,5 @@
 -- The tags of an entry and of a proof, one after the other.
-use Rattle.std.proofs.Common.{◌≡◌, ℕ, zero, suc, ◌+◌, ◌*◌, ◌≤◌, ◌⊎◌, List, [], ◌∷◌, ◌++◌, length, get_or, take, Some, None, Ok, Err, Option, sym, refl, ap, ◌∙◌, subst, inl, inr, arith}
+use Rattle.std.proofs.Common.{◌≡◌, ℕ, zero, suc, ◌+◌, ◌*◌, ◌<◌, ◌≤◌, ◌⊎◌, List, [], ◌∷◌, ◌++◌, length, get_or, take, Some, None, Ok, Err, Option, sym, refl, ap, ◌∙◌, subst, inl, inr, arith}
 use Rattle.std.specs.List.{AllByRecursion, flat_map, AllByRecursion as All}
 use Rattle.std.proofs.ByRecursion.{All-get_or, All-more}
 use Rattle.std.proofs.lemmas.List.{length-append, take_all}
@@ -54,7 +54,7 @@ module _ (passes : ℕ → List ℕ → List ℕ → Type 0) (part : SealedPart)
   Verifies k = (f at : ℕ) (s : SealedBody) → PartHolds f at part s → f ≤ 5 → All (λ (p : PairBody). p.signer ≤ 31) s.pairs → All (Tagged passes s.entry) (take k s.pairs)
 
   abbrev pub FoundPair : ℕ → Option PairPart → Type 0
-  FoundPair k o = (f at : ℕ) (s : SealedBody) → PartHolds f at part s → FoundAt (PairHolds (tag_place 2 at s k)) s.pairs k o
+  FoundPair k o = (f at : ℕ) (s : SealedBody) → PartHolds f at part s → f < 255 → FoundAt (PairHolds (tag_place 2 at s k)) s.pairs k o
 
   nobody : PairBody
   nobody = record { signer = 0; tag = [] }
@@ -64,17 +64,17 @@ module _ (passes : ℕ → List ℕ → List ℕ → Type 0) (part : SealedPart)
 
   module _ (k : ℕ) (p : PairPart) (label : List ℕ) (found : FoundPair k (Some p)) (entry : label ≡ label_bytes Entry) where
     -- a tag as it stands in the frame, and as the proof holds it
-    seen : (f at : ℕ) (s : SealedBody) → PartHolds f at part s → passes p.signer (label ++ part.body.now) p.tag.now → Tagged passes s.entry (get_or s.pairs k nobody)
-    seen f at s holds t =
-        let held = (found f at s holds).1 nobody in
+    seen : (f at : ℕ) (s : SealedBody) → PartHolds f at part s → f ≤ 5 → passes p.signer (label ++ part.body.now) p.tag.now → Tagged passes s.entry (get_or s.pairs k nobody)
+    seen f at s holds few t =
+        let held = (found f at s holds (omega (arith, few))).1 nobody in
         let string : label ++ part.body.now ≡ labelled Entry (entry_bytes width s.entry) = ap (λ l. l ++ part.body.now) entry ∙ ap (λ b. label_bytes Entry ++ b) holds.body in
         subst (λ (a : ℕ). passes a (labelled Entry (entry_bytes width s.entry)) (get_or s.pairs k nobody).tag) held.signer
         (subst (λ (b : List ℕ). passes p.signer b (get_or s.pairs k nobody).tag) string
         (subst (λ (b : List ℕ). passes p.signer (label ++ part.body.now) b) held.tag t))
 
-    unseen : (f at : ℕ) (s : SealedBody) → PartHolds f at part s → Tagged passes s.entry (get_or s.pairs k nobody) → passes p.signer (label ++ part.body.now) p.tag.now
-    unseen f at s holds t =
-        let held = (found f at s holds).1 nobody in
+    unseen : (f at : ℕ) (s : SealedBody) → PartHolds f at part s → f ≤ 5 → Tagged passes s.entry (get_or s.pairs k nobody) → passes p.signer (label ++ part.body.now) p.tag.now
+    unseen f at s holds few t =
+        let held = (found f at s holds (omega (arith, few))).1 nobody in
         let string : label ++ part.body.now ≡ labelled Entry (entry_bytes width s.entry) = ap (λ l. l ++ part.body.now) entry ∙ ap (λ b. label_bytes Entry ++ b) holds.body in
         subst (λ (b : List ℕ). passes p.signer (label ++ part.body.now) b) (sym held.tag)
         (subst (λ (b : List ℕ). passes p.signer b (get_or s.pairs k nobody).tag) (sym string)
@@ -82,18 +82,18 @@ module _ (passes : ℕ → List ℕ → List ℕ → Type 0) (part : SealedPart)
 
     pub verifies_more : passes p.signer (label ++ part.body.now) p.tag.now → Verifies k → Verifies (k + 1)
     verifies_more t before f at s holds few signers =
-        All-more (Tagged passes s.entry) s.pairs k nobody (found f at s holds).0 (before f at s holds few signers) (seen f at s holds t)
+        All-more (Tagged passes s.entry) s.pairs k nobody (found f at s holds (omega (arith, few))).0 (before f at s holds few signers) (seen f at s holds few t)
 
     -- a tag that does not pass is refused at its place; nothing else is
     pub wrong-tag : (e : Fault) → Verified {A = Unit {0}} passes p.signer (label ++ part.body.now) p.tag.now p.place (Err e) → Verifies k → JudgesTags passes part (Err e)
     wrong-tag e verified before f at s holds few signers = go verified
       where
         held : PairHolds (tag_place 2 at s k) p (get_or s.pairs k nobody)
-        held = (found f at s holds).1 nobody
+        held = (found f at s holds (omega (arith, few))).1 nobody
 
         taken : Taken p.signer (length (label ++ part.body.now))
         taken =
-            let board = All-get_or (λ (q : PairBody). q.signer ≤ 31) s.pairs k nobody (found f at s holds).0 signers in
+            let board = All-get_or (λ (q : PairBody). q.signer ≤ 31) s.pairs k nobody (found f at s holds (omega (arith, few))).0 signers in
             let signer = held.signer in
             let string : label ++ part.body.now ≡ labelled Entry (entry_bytes width s.entry) = ap (λ l. l ++ part.body.now) entry ∙ ap (λ b. label_bytes Entry ++ b) holds.body in
             let long = ap length string in
@@ -103,14 +103,14 @@ module _ (passes : ℕ → List ℕ → List ℕ → Type 0) (part : SealedPart)
         go : Refused p.signer (length (label ++ part.body.now)) e ⊎ (Taken p.signer (length (label ++ part.body.now)) × (passes p.signer (label ++ part.body.now) p.tag.now → ⊥) × (e ≡ fault WrongTag Seal p.place)) → Judges (sealed_rows passes at s) (Err e)
         go (inl refused) = absurd (refused.0 taken)
         go (inr (t, wrong, is)) =
-            let inside = (found f at s holds).0 in
+            let inside = (found f at s holds (omega (arith, few))).0 in
             let stride = pairs-long s.pairs k holds.in_range.pairs (omega arith) in
             let place = held.place in
             let body = length (entry_bytes width s.entry) in
             let there : p.place ≡ at + body + length (flat_map pair_bytes (take k s.pairs)) + 1 = omega arith in
             let refusal : e ≡ fault WrongTag Seal (at + body + length (flat_map pair_bytes (take k s.pairs)) + 1) = is ∙ ap (fault WrongTag Seal) there in
             along-refused pair_bytes (pair_rows passes s.entry) (Tagged passes s.entry) (λ u. Unit {0}) (pair_clear passes s.entry) (at + body) k s.pairs nobody e inside (before f at s holds few signers)
-            (λ n. ap Err refusal, λ n. absurd (n (λ t. wrong (unseen f at s holds t))))
+            (λ n. ap Err refusal, λ n. absurd (n (λ t. wrong (unseen f at s holds few t))))
 
   all_verified : (f at : ℕ) (s : SealedBody) (k : ℕ) → PartHolds f at part s → f ≤ 5 → All (λ (p : PairBody). p.signer ≤ 31) s.pairs → length s.pairs ≤ k → Verifies k → Judges (sealed_rows passes at s) (Ok tt)
   all_verified f at s k holds few signers le before =
@@ -118,10 +118,7 @@ module _ (passes : ℕ → List ℕ → List ℕ → Type 0) (part : SealedPart)
       (sealed_clear passes at s (subst (λ (ps : List PairBody). All (Tagged passes s.entry) ps) (take_all k s.pairs le) (before f at s holds few signers))) tt
 
   pub verifies_end : (k : ℕ) → FoundPair k None → Verifies k → JudgesTags passes part (Ok tt)
-  verifies_end k found before f at s holds few signers = all_verified f at s k holds few signers (found f at s holds) before
-
-  pub verifies_all : (k : ℕ) → 6 ≤ k → Verifies k → JudgesTags passes part (Ok tt)
-  verifies_all k le before f at s holds few signers = let n = holds.in_range.sealed in all_verified f at s k holds few signers (omega arith) before
+  verifies_end k found before f at s holds few signers = all_verified f at s k holds few signers (found f at s holds (omega (arith, few))) before
 
 -- what stands at an index of a proof's entries
 abbrev pub FoundEntry : Proof → ℕ → Option SealedPart → Type 0
@@ -156,14 +153,8 @@ module _ (passes : ℕ → List ℕ → List ℕ → Type 0) (proof : Proof) whe
         along-refused (sealed_bytes width) (sealed_rows passes) (Unrefuted passes) (λ u. Unit {0}) (unrefuted_clear passes) (entries_at width) i b.entries empty e here.0 (before f b holds few boards)
         (judged f (entry_place 2 b i) s (here.1 empty) few (All-get_or Boards b.entries i empty here.0 boards))
 
-  proved : (i : ℕ) → ((f : ℕ) (b : ProofBody) → Holds f proof b → length b.entries ≤ i) → Proves i → JudgesProof passes proof (Ok tt)
-  proved i all before f b holds few boards =
+  pub proves-end : (i : ℕ) → FoundEntry proof i None → Proves i → JudgesProof passes proof (Ok tt)
+  proves-end i found before f b holds few boards =
       clear_ok (λ u. Unit {0}) (along (sealed_bytes width) (sealed_rows passes) (entries_at width) b.entries) tt
       (along_clear (sealed_bytes width) (sealed_rows passes) (Unrefuted passes) (unrefuted_clear passes) (entries_at width) b.entries
-      (subst (λ (ss : List SealedBody). All (Unrefuted passes) ss) (take_all i b.entries (all f b holds)) (before f b holds few boards))) tt
-
-  pub proves-end : (i : ℕ) → FoundEntry proof i None → Proves i → JudgesProof passes proof (Ok tt)
-  proves-end i found before = proved i found before
-
-  pub proves_all : (i n : ℕ) → ((f : ℕ) (b : ProofBody) → Holds f proof b → n ≡ length b.entries) → n ≤ i → Proves i → JudgesProof passes proof (Ok tt)
-  proves_all i n long le before = proved i (λ f b holds. let e = long f b holds in omega arith) before
+      (subst (λ (ss : List SealedBody). All (Unrefuted passes) ss) (take_all i b.entries (found f b holds)) (before f b holds few boards))) tt

@@ -1,7 +1,6 @@
 pub mod Checks
 pub mod Accepted
 pub mod Example
-pub mod Sizes
 pub mod Entries
 pub mod Tags
 pub mod Items

@@ -17,15 +17,9 @@ fn wrong_by(part: SealedPart, read: ReadingItem, digest: &[u8]) -> Option<Cause>
         return None;
     }
     if part.version > read.version {
-        if writes_item(part, read.item) {
-            return Some(Cause::Stale);
-        }
-        return None;
+        return writes_item(part, read.item).then_some(Cause::Stale);
     }
-    if !records(part, read.item, digest) {
-        return Some(Cause::Unmatched);
-    }
-    None
+    (!records(part, read.item, digest)).then_some(Cause::Unmatched)
 }
 
 // Judges each item read against every entry, and ends at the first that fails.
@@ -33,34 +27,15 @@ pub(crate) fn judge<D: Digest>(digest: &D, reading: Reading, proof: Proof) -> Re
     ensures { JudgesItems (λ m. written (D.Digest.of m)) reading.entry proof.entry result }
 {
     let mut answer = Ok(());
-    'readings: for i in 0..reading.count() {
-        let Some(read) = reading.item(i) else {
+    'readings: for read in reading.items() {
+        if read.version == 0 && read.value.len() > 0 {
+            answer = Err(Cause::Unmatched.at(Layer::Reader, read.place));
             break 'readings;
-        };
-        let layer = Layer::Reader;
-        let place = read.place;
-        if read.version == 0 {
-            if read.value.len() > 0 {
-                let cause = Cause::Unmatched;
-                answer = Err(Fault {
-                    cause,
-                    layer,
-                    place,
-                });
-                break 'readings;
-            }
         }
         let made = digest.digest(&[], read.value)?;
-        for j in 0..proof.len() {
-            let Some(part) = proof.entry(j) else {
-                break 'readings;
-            };
+        for part in proof.entries() {
             if let Some(cause) = wrong_by(part, read, &made) {
-                answer = Err(Fault {
-                    cause,
-                    layer,
-                    place,
-                });
+                answer = Err(cause.at(Layer::Reader, read.place));
                 break 'readings;
             }
         }

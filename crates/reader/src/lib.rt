@@ -4,7 +4,6 @@
 mod entries;
 mod items;
 pub mod range;
-pub mod size;
 pub mod state;
 mod tags;
 pub mod worked;

@@ -12,31 +12,14 @@ use reading::Reading;
 pub fn highest(reading: Reading) -> u32
     ensures { (bs : List ℕ) → Found bs reading.entry → result ≡ highestOf (held reading.entry).items }
 {
-    let mut high = 0;
-    for i in 0..reading.count() {
-        let Some(read) = reading.item(i) else {
-            return high;
-        };
-        high = high.max(read.version);
-    }
-    high
+    reading.items().map(|read| read.version).max().unwrap_or(0)
 }
 
 // The lowest version read.
 pub fn lowest(reading: Reading) -> u32
     ensures { (bs : List ℕ) → Found bs reading.entry → result ≡ lowestOf (held reading.entry).items }
 {
-    let Some(first) = reading.item(0) else {
-        return 0;
-    };
-    let mut low = first.version;
-    for i in 1..reading.count() {
-        let Some(read) = reading.item(i) else {
-            return low;
-        };
-        low = low.min(read.version);
-    }
-    low
+    reading.items().map(|read| read.version).min().unwrap_or(0)
 }
 
 // Whether a proof goes from the lowest version read, a lowest 0 counting as 1, to the highest.

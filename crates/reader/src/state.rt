@@ -1,5 +1,5 @@
 // What a reader is made of.
-use crate::size::ReaderSize;
+use cluster_size::ClusterSize;
 use digest::Digest;
 use seal::Seal;
 
@@ -8,7 +8,7 @@ pub mod calls;
 // How many boards may lie, one digest and one seal; a reader keeps nothing of what it checked.
 #[derive(Drop)]
 pub struct Reader<D: Digest, L: Seal> {
-    size: ReaderSize,
+    size: ClusterSize,
     digest: D,
     seal: L,
 }

@@ -3,26 +3,23 @@
 
 #[cfg(test)]
 mod tests {
+    use cluster_size::ClusterSize;
     use digest::{Digest, Fnv};
     use entry::parts::{Entry, ItemDigest, Pair, SealedEntry};
     use fault::{Cause, Fault, Layer};
     use label::Label;
     use proof::write::write_proof;
-    use reader::size::ReaderSize;
     use reader::state::Reader;
     use reading::draft::write_reading;
     use reading::part::ReadingDraft;
+    use sample_keys::sample_keys;
     use seal::Seal;
     use seal::sip::SipSeal;
     use std::test::Fail;
 
     // Signer s has a key of bytes s.
     fn seal() -> SipSeal {
-        let mut keys = [[0u8; 32]; 32];
-        for s in 0..32 {
-            keys[s] = [s as u8; 32];
-        }
-        SipSeal::new(keys)
+        SipSeal::new(sample_keys())
     }
 
     // The pair of a board over an entry's body.
@@ -33,28 +30,29 @@ mod tests {
     }
 
     // What stands for an entry that cannot be made.
-    const NO_ENTRY: Fault = Fault {
-        cause: Cause::Malformed,
-        layer: Layer::Board,
-        place: 0,
-    };
+    fn no_entry() -> Fault {
+        Cause::Malformed.at(Layer::Board, 0)
+    }
 
     // The entry of a commit of one write, with the tags of boards 0 and 2.
     fn sealed(version: u32, item: u8, value: &[u8]) -> Result<SealedEntry, Fault> {
         let made = Fnv.digest(&[], value)?;
-        let mut entry = Entry::new(version).ok_or(NO_ENTRY)?;
-        entry.push(ItemDigest::new(item, made));
+        let mut entry = Entry::new(version).ok_or(no_entry())?;
+        entry
+            .push(ItemDigest::new(item, made))
+            .map_err(|_| no_entry())?;
         let mut body = [0; 36];
-        entry.write_body(&mut body).ok_or(NO_ENTRY)?;
+        entry.write_body(&mut body).ok_or(no_entry())?;
         let mut all = SealedEntry::new(entry);
-        all.push(pair(0, &body)?);
-        all.push(pair(2, &body)?);
+        for signer in [0, 2] {
+            all.push(pair(signer, &body)?).map_err(|_| no_entry())?;
+        }
         Ok(all)
     }
 
     // Of four boards one may lie.
     fn check_frames(reading: &[u8], proof: &[u8]) -> Result<u32, Fault> {
-        let reader = Reader::new(ReaderSize::new(1)?, Fnv, seal());
+        let reader = Reader::new(ClusterSize::new(1)?, Fnv, seal());
         reader.check(reading, proof)
     }
 
@@ -81,10 +79,7 @@ mod tests {
     }
 
     fn is(answer: Result<u32, Fault>, cause: Cause, layer: Layer, place: u32) -> bool {
-        match answer {
-            Ok(_) => false,
-            Err(fault) => fault.cause == cause && fault.layer == layer && fault.place == place,
-        }
+        answer == Err(cause.at(layer, place))
     }
 
     // Commit 1 wrote item 5, commit 2 item 6; both were read since. One byte of a frame is changed.

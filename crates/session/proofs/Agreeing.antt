@@ -1,17 +1,18 @@
 -- Boards that agree, as a list of different boards.
-use Rattle.std.proofs.Common.{◌≡◌, ℕ, zero, suc, ◌+◌, ◌<◌, ◌≤◌, Bool, true, false, cond, not, ◌&&◌, eqb, List, [], ◌∷◌, length, take, refl, ap, zero-le, arith}
+use Rattle.std.proofs.Common.{◌≡◌, ℕ, zero, suc, ◌+◌, ◌<◌, ◌≤◌, Bool, true, false, cond, not, ◌&&◌, eqb, List, [], ◌∷◌, length, take, Some, refl, ap, zero-le, arith}
 use Rattle.std.proofs.ByRecursion.{all-has, All-take, All-weaker}
 use Rattle.std.proofs.lemmas.List.{length-take-le}
 use Rattle.std.proofs.lemmas.Bool.{and_from, both_ways, cond_both, eq-eqb, le-leb, leb-true, ne_eqb, not_from_false}
 use Rattle.std.specs.List.{ContainsAt as Has, AllByRecursion as All}
 use Rattle.fault.specs.Codes.{verdict_byte}
 use Rattle.fault.specs.declared.Verdict.{Verdict}
+use Rattle.decision.specs.Decisions.{verdict_of}
+use Rattle.decision.specs.declared.Decision.{Decision}
 use Rattle.session.specs.Answers.{Agree, Different, Honest, reply}
-use Rattle.session.specs.Replies.{agreed, agreeing, count_below, says, sent}
-use Rattle.session.specs.Sizes.{members}
+use Rattle.session.specs.Replies.{agreed, agreeing, count_below, says, sent, stated}
+use Rattle.cluster_size.specs.Sizes.{members}
 use Rattle.session.specs.Standing.{Formed}
 use Rattle.session.specs.declared.replies.Reply.{Reply}
-use Rattle.session.specs.declared.replies.Outcome.TheVariants.{Decided}
 use Rattle.session.proofs.Counting.{bit, count_witness, count_without}
 use Rattle.session.proofs.Sending.{has-any, sent-has}
 
@@ -80,7 +81,9 @@ module _ (f : ℕ) (rs : List Reply) (v : Verdict) (k : ℕ) where
   pub agree_not : All (Formed f) rs → agreed f rs v k ≡ false → Agree f rs v k → ⊥
   agree_not formed no' agree = both_ways (agreed f rs v k) no' (agree_to formed agree)
 
-  pub honest : agreed f rs v k ≡ true → Honest f rs (Decided v k)
-  honest e faulty few =
-      let at = count_witness (sent rs v k) faulty (members f) (omega (arith, leb-true (f + 1) (agreeing f rs v k) e)) in
-      (at.0, (at.1.0, at.1.2, sent-has rs v k at.0 at.1.1))
+pub honest : (f : ℕ) (rs : List Reply) (d : Decision) → agreed f rs (verdict_of d) (stated d) ≡ true → Honest f rs (Some d)
+honest f rs d e faulty few =
+    let v = verdict_of d in
+    let k = stated d in
+    let at = count_witness (sent rs v k) faulty (members f) (omega (arith, leb-true (f + 1) (agreeing f rs v k) e)) in
+    (at.0, (at.1.0, at.1.2, sent-has rs v k at.0 at.1.1))

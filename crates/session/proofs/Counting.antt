@@ -1,5 +1,7 @@
 -- How many numbers below n pass a test.
-use Rattle.std.proofs.Common.{◌≡◌, ℕ, zero, suc, ◌+◌, ◌<◌, ◌≤◌, Bool, true, false, cond, not, ◌&&◌, eqb, sym, refl, ap, ◌∙◌, inl, inr, not-suc-le-zero, add-one, arith}
+use Rattle.std.proofs.Common.{◌≡◌, ℕ, zero, suc, ◌+◌, ◌<◌, ◌≤◌, Bool, true, false, cond, not, ◌&&◌, eqb, List, length, take, slice_index_or, count_by, take_all, sym, refl, ap, ◌∙◌, inl, inr, not-suc-le-zero, add-one, arith}
+use Rattle.std.proofs.Math.Bool.{and-true}
+use Rattle.std.proofs.lemmas.List.Sums.{sum_by_more}
 use Rattle.std.proofs.lemmas.Bool.{and_right, cases_Bool, cases_eq, cases_lt, eq-eqb, ne_eqb, not_from_false, not_from_true}
 use Rattle.session.specs.Replies.{count_below}
 
@@ -12,20 +14,6 @@ bit_le true = omega arith
 bit_le false = omega arith
 
 module _ (p : ℕ → Bool) where
-  pub count_start : count_below p 0 ≡ 0
-  unfolding count_below
-  count_start = refl
-
-  pub count-more : (n : ℕ) → count_below p (n + 1) ≡ count_below p n + bit (p n)
-  unfolding count_below
-  count-more n = ap (count_below p) (add-one n)
-
-  pub count_yes : (n : ℕ) → p n ≡ true → count_below p (n + 1) ≡ count_below p n + 1
-  count_yes n is = omega (arith, count-more n, ap bit is)
-
-  pub count_no : (n : ℕ) → p n ≡ false → count_below p (n + 1) ≡ count_below p n
-  count_no n is = omega (arith, count-more n, ap bit is)
-
   -- past a bound behind which none passes nothing is added
   pub count_beyond : (n m : ℕ) → ((b : ℕ) → n ≤ b → p b ≡ false) → n ≤ m → count_below p m ≡ count_below p n
   unfolding count_below
@@ -34,6 +22,15 @@ module _ (p : ℕ → Bool) where
     | inl last ↦ let e : suc m ≡ n = omega arith in ap (count_below p) e
     | inr past ↦ omega (arith, count_beyond n m none past, ap bit (none m past))
   ]
+
+-- the first n items of a list that pass a test, counted by their numbers
+counted_to : {A : Type 0} (p : A → Bool) (d : A) (xs : List A) (n : ℕ) → n ≤ length xs → count_by p (take n xs) ≡ count_below (λ b. p (slice_index_or xs b d)) n
+unfolding count_below
+counted_to p d xs zero le = refl
+counted_to p d xs (suc n) le = omega (arith, ap (λ m. count_by p (take m xs)) (add-one n), sum_by_more (λ x. bit (p x)) xs n d (omega arith), counted_to p d xs n (omega arith))
+
+pub counted : {A : Type 0} (p : A → Bool) (d : A) (xs : List A) (n : ℕ) → length xs ≡ n → count_by p xs ≡ count_below (λ b. p (slice_index_or xs b d)) n
+counted p d xs n long = ap (count_by p) (sym (take_all n xs (omega (arith, long)))) ∙ counted_to p d xs n (omega (arith, long))
 
 pub count_same : (p q : ℕ → Bool) (n : ℕ) → ((b : ℕ) → b < n → p b ≡ q b) → count_below p n ≡ count_below q n
 unfolding count_below
@@ -52,10 +49,6 @@ count_witness p q (suc n) lt = elim (cases_Bool (q n)) [
   ]
 ]
 
-and_yes : (x y : Bool) → y ≡ true → (x && y) ≡ x
-and_yes true y is = is
-and_yes false y is = refl
-
 -- a number that is left out counts one less
 pub count_without : (p : ℕ → Bool) (b n : ℕ) → b < n → p b ≡ true → count_below p n ≡ count_below (λ c. p c && not (eqb c b)) n + 1
 unfolding count_below
@@ -64,10 +57,10 @@ count_without p b (suc n) lt is = elim (cases_eq n b) [
   | inl e ↦
       let here = ap bit (ap p e ∙ is) in
       let gone : bit (p n && not (eqb n b)) ≡ 0 = ap bit (and_right (p n) (not (eqb n b)) (not_from_true (eqb n b) (eq-eqb n b e))) in
-      let below = count_same p (λ c. p c && not (eqb c b)) n (λ c low. sym (and_yes (p c) (not (eqb c b)) (not_from_false (eqb c b) (ne_eqb c b (omega arith))))) in
+      let below = count_same p (λ c. p c && not (eqb c b)) n (λ c low. sym (and-true (p c)) ∙ ap (λ x. p c && x) (sym (not_from_false (eqb c b) (ne_eqb c b (omega arith))))) in
       omega (arith, here, gone, below)
   | inr ne ↦
-      let here : bit (p n && not (eqb n b)) ≡ bit (p n) = ap bit (and_yes (p n) (not (eqb n b)) (not_from_false (eqb n b) (ne_eqb n b ne))) in
+      let here : bit (p n && not (eqb n b)) ≡ bit (p n) = ap (λ x. bit (p n && x)) (not_from_false (eqb n b) (ne_eqb n b ne)) ∙ ap bit (and-true (p n)) in
       omega (arith, count_without p b n (omega arith) is, here)
 ]
 

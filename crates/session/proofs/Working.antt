@@ -1,20 +1,15 @@
 -- Two boards of four that agree, and a board that replies twice.
-use Rattle.std.proofs.Common.{◌≡◌, ℕ, false, ◌||◌, List, [], ◌∷◌, length, Ok, Err, Result, sym, refl, ap, ◌∙◌, subst, inl, inr, not-suc-le-zero, arith, lit<}
+use Rattle.std.proofs.Common.{◌≡◌, ℕ, false, ◌||◌, List, [], ◌∷◌, length, Some, None, Ok, Err, sym, refl, ap, ◌∙◌, inl, inr, not-suc-le-zero, arith, lit<}
 use Rattle.std.proofs.ByRecursion.{All-weaker, has_append_left, has_push, has_push_cases}
 use Rattle.std.proofs.lemmas.Bool.{cases_Bool, cond-false, cond-true, or_from, or_right}
 use Rattle.std.specs.List.{ContainsAt as Has, AllByRecursion as All}
 use Rattle.fault.specs.Codes.{fault}
 use Rattle.fault.specs.declared.Cause.TheVariants.{Settled}
-use Rattle.fault.specs.declared.Fault.{Fault}
 use Rattle.fault.specs.declared.Layer.TheVariants.{Session as ofSession}
 use Rattle.fault.specs.declared.Verdict.{Verdict}
-use Rattle.session.specs.Answers.{Agree, Different, accepted, answer, reply}
-use Rattle.session.specs.Replies.{agreed, decided, malformed, replied}
-use Rattle.session.specs.Standing.{Represents}
-use Rattle.session.specs.declared.replies.Outcome.{Outcome}
-use Rattle.session.specs.declared.replies.Outcome.TheVariants.{Waiting, Decided}
+use Rattle.session.specs.Answers.{Agree, Different, answer, reply}
+use Rattle.session.specs.Replies.{agreed, decided, decision, malformed, replied}
 use Rattle.session.specs.declared.replies.Reply.{Reply}
-use Rattle.session.specs.declared.state.Session.{Session}
 use Rattle.session.proofs.Agreeing.{agree_from, agree_to}
 use Rattle.session.proofs.Deciding.{answer-settled, answer_taken}
 
@@ -39,22 +34,18 @@ module _ (v : Verdict) (k : ℕ) where
   ]
 
   module _ (ok : malformed v k ≡ false) where
-    pub first_waits : answer 1 [] (reply 0 v k) ≡ Ok Waiting
+    pub first_waits : answer 1 [] (reply 0 v k) ≡ Ok None
     first_waits = answer_taken 1 [] (reply 0 v k) ok (lit< tt) refl ∙ ap Ok (cond-false (agreed 1 (reply 0 v k ∷ []) v k) _ _ (alone v k))
 
     both_agree : Agree 1 (reply 0 v k ∷ reply 3 v k ∷ []) v k
     both_agree = (0 ∷ 3 ∷ [], (refl, ((omega arith, tt), (tt, tt)), (has_append_left (reply 0 v k ∷ []) (reply 3 v k ∷ []) (reply 0 v k) (has_push [] (reply 0 v k)), (has_push (reply 0 v k ∷ []) (reply 3 v k), tt))))
 
-    pub three_decides : answer 1 (reply 0 v k ∷ []) (reply 3 v k) ≡ Ok (Decided v k)
+    pub three_decides : answer 1 (reply 0 v k ∷ []) (reply 3 v k) ≡ Ok (Some (decision v k))
     three_decides =
         let free : (decided 1 (reply 0 v k ∷ []) || replied (reply 0 v k ∷ []) 3) ≡ false
         = or_from (decided 1 (reply 0 v k ∷ [])) (replied (reply 0 v k ∷ []) 3) (or_from (agreed 1 (reply 0 v k ∷ []) v k) false (alone v k) refl) refl in
         let both = agree_to 1 (reply 0 v k ∷ reply 3 v k ∷ []) v k ((ok, lit< tt), ((ok, lit< tt), tt)) both_agree in
         answer_taken 1 (reply 0 v k ∷ []) (reply 3 v k) ok (lit< tt) free ∙ ap Ok (cond-true (agreed 1 (reply 0 v k ∷ reply 3 v k ∷ []) v k) _ _ both)
-
-    -- a session that took the first reply
-    pub took_first : (s : Session) (a : Result Outcome Fault) → (a ≡ answer 1 [] (reply 0 v k)) × Represents s 1 (accepted [] (reply 0 v k) a) → Represents s 1 (reply 0 v k ∷ [])
-    took_first s a (is, st) = subst (λ x. Represents s 1 (accepted [] (reply 0 v k) x)) (is ∙ first_waits) st
 
 -- a second reply is refused
 pub twice-refused : (u v : Verdict) (j k : ℕ) → malformed v k ≡ false → answer 1 (reply 0 u j ∷ []) (reply 0 v k) ≡ Err (fault Settled ofSession 0)

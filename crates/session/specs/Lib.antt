@@ -1,4 +1,3 @@
-pub mod Sizes
 pub mod Replies
 pub mod Answers
 pub mod Hearing

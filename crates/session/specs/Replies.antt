@@ -1,9 +1,13 @@
 -- What the replies that a session has accepted say, oldest first.
-use Rattle.std.specs.Prelude.{ℕ, zero, suc, ◌+◌, Bool, false, cond, not, ◌&&◌, ◌||◌, List, [], ◌∷◌, ◌==◌, nat_eq, nat_le}
+use Rattle.std.specs.Prelude.{ℕ, zero, suc, ◌+◌, Bool, cond, not, unwrap_or, ◌&&◌, List, ◌==◌, nat_eq, nat_le}
+use Rattle.std.specs.List.{list_any}
 use Rattle.fault.specs.Codes.{verdict_byte}
 use Rattle.fault.specs.declared.Verdict.{Verdict}
 use Rattle.fault.specs.declared.Verdict.TheVariants.{Abort, Commit}
-use Rattle.session.specs.Sizes.{members}
+use Rattle.decision.specs.Decisions.{version_of}
+use Rattle.decision.specs.declared.Decision.{Decision}
+use Rattle.decision.specs.declared.Decision.TheVariants as said
+use Rattle.cluster_size.specs.Sizes.{members}
 use Rattle.session.specs.declared.replies.Reply.{Reply}
 
 -- a commit has a version of 1 or more, an abort has 0
@@ -11,10 +15,14 @@ abbrev pub malformed : Verdict → ℕ → Bool
 malformed Commit k = k == 0
 malformed Abort k = not (k == 0)
 
--- whether one of the replies passes a test
-abbrev pub any_of : (Reply → Bool) → List Reply → Bool
-any_of p [] = false
-any_of p (r ∷ rs) = p r || any_of p rs
+-- what a reply that is not malformed says
+abbrev pub decision : Verdict → ℕ → Decision
+decision Commit k = said.Commit k
+decision Abort k = said.Abort
+
+-- the version in a reply that says this: an abort has 0
+abbrev pub stated : Decision → ℕ
+stated d = unwrap_or (version_of d) 0
 
 -- whether a reply has this verdict and this version
 abbrev pub says : Verdict → ℕ → Reply → Bool
@@ -22,11 +30,11 @@ says v k r = verdict_byte r.verdict == verdict_byte v && r.version == k
 
 -- whether a board replied
 abbrev pub replied : List Reply → ℕ → Bool
-replied rs b = any_of (λ r. nat_eq r.board b) rs
+replied rs b = list_any (λ r. nat_eq r.board b) rs
 
 -- whether a board replied with this verdict and this version
 abbrev pub sent : List Reply → Verdict → ℕ → ℕ → Bool
-sent rs v k b = any_of (λ r. (r.board == b) && says v k r) rs
+sent rs v k b = list_any (λ r. (r.board == b) && says v k r) rs
 
 -- how many of the numbers below n pass a test
 unfoldable pub count_below : (ℕ → Bool) → ℕ → ℕ
@@ -43,4 +51,4 @@ agreed f rs v k = nat_le (f + 1) (agreeing f rs v k)
 
 -- whether the session is decided: f + 1 different boards agree with one of the replies
 abbrev pub decided : ℕ → List Reply → Bool
-decided f rs = any_of (λ r. agreed f rs r.verdict r.version) rs
+decided f rs = list_any (λ r. agreed f rs r.verdict r.version) rs

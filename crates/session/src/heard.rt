@@ -1,55 +1,41 @@
 // The replies that a session has heard, by board.
 ghost use Rattle.std.specs.Prelude.{◌≡◌, ℕ, None};
-ghost use Rattle.session.specs.Hearing.{Took, heard_of, hearers, is_version};
+ghost use Rattle.session.specs.Hearing.{Took, heard_of, hearers};
 
-// The version of each board's reply; an abort has version 0, and a commit never has.
+use decision::Decision;
+
+// What each board said, if it replied.
 #[derive(Clone, Copy)]
 pub struct Heard {
-    versions: [Option<u32>; 16],
+    said: [Option<Decision>; 16],
 }
 
 impl Heard {
     pub fn new() -> Heard
         ensures { (b : ℕ) → heard_of result b ≡ None }
     {
-        Heard {
-            versions: [None; 16],
-        }
+        Heard { said: [None; 16] }
     }
 
-    // How many boards sent this version.
-    fn agreeing(&self, version: u32) -> u8
-        ensures { result ≡ hearers self.now version }
+    // How many boards said this.
+    fn agreeing(&self, decision: Decision) -> usize
+        ensures { result ≡ hearers self.now decision }
     {
-        let mut count = 0;
-        for b in 0..16 {
-            if is_version(self.versions[b], version) {
-                count += 1;
-            }
-        }
-        count
+        self.said
+            .iter()
+            .filter(|said| **said == Some(decision))
+            .count()
     }
 
     // Takes a board's reply and answers how many boards agree with it; None, and nothing changed, where it has replied.
-    pub fn take(&mut self, board: u8, version: u32) -> Option<u8>
-        ensures { Took self.old self.new board version result }
+    pub fn take(&mut self, board: u8, decision: Decision) -> Option<usize>
+        ensures { Took self.old self.new board decision result }
     {
-        if board >= 16 {
+        if self.said.get(usize::from(board))?.is_some() {
             return None;
         }
-        if self.versions[board as usize].is_some() {
-            return None;
-        }
-        self.versions[board as usize] = Some(version);
-        Some(self.agreeing(version))
-    }
-}
-
-fn is_version(heard: Option<u32>, version: u32) -> bool
-    ensures { result ≡ is_version heard version }
-{
-    match heard {
-        Some(v) => v == version,
-        None => false,
+        // By index: after a write through `get_mut` a proof knows the array's length and no element.
+        self.said[usize::from(board)] = Some(decision);
+        Some(self.agreeing(decision))
     }
 }

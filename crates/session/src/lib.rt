@@ -5,6 +5,5 @@
 mod heard;
 pub mod replies;
 pub mod runs;
-pub mod size;
 pub mod state;
 pub mod worked;

@@ -2,7 +2,7 @@
 use Rattle.std.proofs.Common.{ℕ, ◌+◌, ◌≤◌, List, [], ◌∷◌, length, Ok, Err, Result, refl, inl, inr, arith}
 use Rattle.std.proofs.ByRecursion.{all_has_itself}
 use Rattle.fault.specs.declared.Fault.{Fault}
-use Rattle.fault.specs.declared.Verdict.TheVariants.{Abort, Commit}
+use Rattle.decision.specs.declared.Decision.TheVariants.{Abort, Commit}
 use Rattle.octets.specs.Numbers.{limit}
 use Rattle.numbers.specs.Sequence.{opens}
 use Rattle.request.specs.Bodies.{ReadBody, ReadIn, RequestBody, read_request}
@@ -34,8 +34,8 @@ under_some (c ∷ cs) P a tell p = elim tell.0 [
 module _ (digest : List ℕ → List ℕ) (tag : ℕ → List ℕ → List ℕ) (f own : ℕ) where
   verdict_some : (es : List Effect) (b : RequestBody) → (d : Delivery) × Delivers digest tag f own es b d
   verdict_some es b = elim (either_all_pass digest (commits es) b.reads) [
-    | inl pass ↦ (record { verdict = Commit; version = length (commits es) + 1; opened = opens width (used b.client es) }, ((pass, refl), refl))
-    | inr fails ↦ (record { verdict = Abort; version = 0; opened = opens width (used b.client es) }, ((fails, refl), refl))
+    | inl pass ↦ (record { decision = Commit (length (commits es) + 1); opened = opens width (used b.client es) }, ((pass, refl), refl))
+    | inr fails ↦ (record { decision = Abort; opened = opens width (used b.client es) }, (fails, refl))
   ]
 
   delivery_some : (es : List Effect) (frame : List ℕ) → (r : Result Delivery Fault) × DeliverAnswers digest tag f own es frame r

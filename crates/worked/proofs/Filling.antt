@@ -8,7 +8,7 @@ use Rattle.log_store.proofs.Filling.{Filling, filling_all, filling-more, filling
 of-item : (n : ℕ) → n < 64 → LogRecord
 of-item n lt = record {
   item = record { number = n; below = lt };
-  row = record { version = 0; value = record { len = 0; bytes = replicate 32 0; fits = omega arith; whole = refl }; digest = replicate 32 0; whole = refl };
+  row = record { version = 0; value = record { bytes = record { places = replicate 32 0; len = 0; within = omega arith; whole = refl } }; digest = replicate 32 0; whole = refl };
 }
 
 filled : (n : ℕ) → n ≤ 65 → (rs : List LogRecord) × Filling rs n

@@ -2,8 +2,8 @@
 use Rattle.std.proofs.Common.{◌≡◌, ℕ, ◌+◌, ◌<◌, ◌≤◌, List, [], ◌∷◌, ◌++◌, length, take, Some, None, Ok, Err, Option, Result, sym, refl, ap, ◌∙◌, subst, inl, inr, arith, lit<}
 use Rattle.std.specs.List.{AllByRecursion as All}
 use Rattle.fault.specs.declared.Fault.{Fault}
-use Rattle.fault.specs.declared.Verdict.{Verdict}
-use Rattle.fault.specs.declared.Verdict.TheVariants.{Abort, Commit}
+use Rattle.decision.specs.declared.Decision.{Decision}
+use Rattle.decision.specs.declared.Decision.TheVariants.{Abort, Commit}
 use Rattle.fault.specs.declared.Cause.TheVariants.{BankFull, NotOpen}
 use Rattle.fault.specs.declared.Layer.TheVariants.{Board}
 use Rattle.fault.specs.Codes.{fault}
@@ -46,20 +46,20 @@ module _ (digest : List ℕ → List ℕ) (tag : ℕ → List ℕ → List ℕ) 
         (behind-tag.1 (λ shut. shut (subst (λ k. Open width (used k es) q.body.sequence) (sym q.client) (subst (Open width (used c es)) (sym q.number) is)))
         ).1 (λ full. omega arith)
 
-  judged-commit : (es : List Effect) (b : RequestBody) (v : Verdict) (n : ℕ) → All (Passes digest (commits es)) b.reads → Judged digest tag f own es b v n → (v ≡ Commit) × (n ≡ length (commits es) + 1)
-  judged-commit es b Commit n pass j = (refl, j.1)
-  judged-commit es b Abort n pass j = absurd (j.0 pass)
+  judged-commit : (es : List Effect) (b : RequestBody) (d : Decision) → All (Passes digest (commits es)) b.reads → Judged digest tag f own es b d → d ≡ Commit (length (commits es) + 1)
+  judged-commit es b (Commit n) pass j = ap (λ k. Commit k) j.1
+  judged-commit es b Abort pass j = absurd (j pass)
 
-  judged-abort : (es : List Effect) (b : RequestBody) (v : Verdict) (n : ℕ) → (All (Passes digest (commits es)) b.reads → ⊥) → Judged digest tag f own es b v n → (v ≡ Abort) × (n ≡ 0)
-  judged-abort es b Commit n fails j = absurd (fails j.0)
-  judged-abort es b Abort n fails j = (refl, j.1)
+  judged-abort : (es : List Effect) (b : RequestBody) (d : Decision) → (All (Passes digest (commits es)) b.reads → ⊥) → Judged digest tag f own es b d → d ≡ Abort
+  judged-abort es b (Commit n) fails j = absurd (fails j.0)
+  judged-abort es b Abort fails j = refl
 
-  gets_commit : (es : List Effect) (b : RequestBody) (k : ℕ) (r : Result Delivery Fault) → length (commits es) + 1 ≡ k → All (Passes digest (commits es)) b.reads → Succeeds (Delivers digest tag f own es b) r → Gets Commit k r
-  gets_commit es b k (Ok d) e pass given = let j = judged-commit es b d.verdict d.version pass given.0 in (j.0, j.1 ∙ e)
+  gets_commit : (es : List Effect) (b : RequestBody) (k : ℕ) (r : Result Delivery Fault) → length (commits es) + 1 ≡ k → All (Passes digest (commits es)) b.reads → Succeeds (Delivers digest tag f own es b) r → Gets (Commit k) r
+  gets_commit es b k (Ok d) e pass given = judged-commit es b d.decision pass given.0 ∙ ap (λ n. Commit n) e
   gets_commit es b k (Err x) e pass given = given
 
-  gets_abort : (es : List Effect) (b : RequestBody) (r : Result Delivery Fault) → (All (Passes digest (commits es)) b.reads → ⊥) → Succeeds (Delivers digest tag f own es b) r → Gets Abort 0 r
-  gets_abort es b (Ok d) fails given = judged-abort es b d.verdict d.version fails given.0
+  gets_abort : (es : List Effect) (b : RequestBody) (r : Result Delivery Fault) → (All (Passes digest (commits es)) b.reads → ⊥) → Succeeds (Delivers digest tag f own es b) r → Gets Abort r
+  gets_abort es b (Ok d) fails given = judged-abort es b d.decision fails given.0
   gets_abort es b (Err x) fails given = given
 
   -- the reads of item 5, after commit 1 wrote it and commit 2 item 6
@@ -81,13 +81,13 @@ module _ (digest : List ℕ → List ℕ) (tag : ℕ → List ℕ → List ℕ) 
     fails_9 d (none, inl (w, (wrote, same))) = let le = wrote.1 in let n = shape.two in omega arith
     fails_9 d (none, inr (z, same)) = omega arith
 
-  passing : (q : ReadBody) (v : List ℕ) → ((cs : List (List WriteBody)) (u : List ℕ) → FiveThenSix cs v u → Passes digest cs q) → ReadGets digest tag f own q v Commit 3
+  passing : (q : ReadBody) (v : List ℕ) → ((cs : List (List WriteBody)) (u : List ℕ) → FiveThenSix cs v u → Passes digest cs q) → ReadGets digest tag f own q v (Commit 3)
   passing q v pass es u frame c s ws r shape req is a =
       let n = shape.two in
       gets_commit es req.body 3 r (omega arith) (subst (All (Passes digest (commits es))) (sym req.reads) (pass (commits es) u shape, tt))
       (verdict_given es frame c s (q ∷ []) ws r req a is (omega arith))
 
-  failing : (q : ReadBody) (v : List ℕ) → ((cs : List (List WriteBody)) (u : List ℕ) → FiveThenSix cs v u → Passes digest cs q → ⊥) → ReadGets digest tag f own q v Abort 0
+  failing : (q : ReadBody) (v : List ℕ) → ((cs : List (List WriteBody)) (u : List ℕ) → FiveThenSix cs v u → Passes digest cs q → ⊥) → ReadGets digest tag f own q v Abort
   failing q v fails es u frame c s ws r shape req is a =
       let n = shape.two in
       gets_abort es req.body r (λ all. fails (commits es) u shape (subst (All (Passes digest (commits es))) req.reads all).0)

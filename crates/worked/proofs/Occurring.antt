@@ -4,7 +4,8 @@ use Rattle.std.specs.List.{AllByRecursion, ContainsAt as Has, AllByRecursion as 
 use Rattle.std.specs.List.Sorted.{IsStrictlyIncreasing}
 use Rattle.std.proofs.ByRecursion.{all_has_itself, has_push_cases}
 use Rattle.std.proofs.lemmas.List.{append_assoc, append-nil, length-map, length_push}
-use Rattle.fault.specs.declared.Verdict.TheVariants.{Commit}
+use Rattle.fault.specs.declared.Verdict.TheVariants as verdict
+use Rattle.decision.specs.declared.Decision.TheVariants.{Commit}
 use Rattle.octets.specs.Numbers.{limit}
 use Rattle.label.specs.declared.Label.TheVariants.{Request}
 use Rattle.label.specs.Labels.{labelled}
@@ -74,7 +75,7 @@ module _ (digest : List ℕ → List ℕ) (tag : ℕ → List ℕ → List ℕ) 
         let frame = made.0 in
         let q = made.1 in
         let b = q.body in
-        let d : Delivery = record { verdict = Commit; version = length cs + 1; opened = opens width (used b.client es) } in
+        let d : Delivery = record { decision = Commit (length cs + 1); opened = opens width (used b.client es) } in
         let pass : All (Passes digest cs) b.reads = subst (All (Passes digest cs)) (sym q.reads) (all_had_passes digest cs rs (reads_had cs ws)) in
         let tagged : passes tag (client_signer b.client) (labelled Request (take (tag_at b) frame)) b.tag =
         subst (λ k. passes tag (client_signer k) (labelled Request (take (tag_at b) frame)) b.tag) (sym q.client) q.tagged in
@@ -84,7 +85,7 @@ module _ (digest : List ℕ → List ℕ) (tag : ℕ → List ℕ → List ℕ) 
           (
             subst (λ x. Read x (λ p. Under (deliver_table digest tag f own es frame p) (Delivers digest tag f own es p)) (Ok d)) (sym q.held)
                 (under_given es frame b d tagged opened free ((pass, refl), refl)),
-            ap (λ x. verdict_effect x Commit) q.held
+            ap (λ x. verdict_effect x verdict.Commit) q.held
                 ∙ (λ i. commit (q.client i) (q.number i) (q.writes i)),
             tt,
           ),

@@ -1,8 +1,8 @@
 -- Worked cases of a board, for every history of their shape; each shape occurs.
 use Rattle.std.specs.Prelude.{◌≡◌, ℕ, ◌≤◌, ◌⊎◌, List, [], ◌∷◌, ◌++◌, length, Ok, Err, Result, ◌≢◌}
 use Rattle.fault.specs.declared.Fault.{Fault}
-use Rattle.fault.specs.declared.Verdict.{Verdict}
-use Rattle.fault.specs.declared.Verdict.TheVariants.{Abort, Commit}
+use Rattle.decision.specs.declared.Decision.{Decision}
+use Rattle.decision.specs.declared.Decision.TheVariants.{Abort, Commit}
 use Rattle.fault.specs.declared.Cause.TheVariants.{Evicted, NotOpen}
 use Rattle.fault.specs.declared.Layer.TheVariants.{Board}
 use Rattle.fault.specs.Codes.{fault}
@@ -26,10 +26,10 @@ gone = Err (fault Evicted Board 0)
 abbrev pub SharesVersion : ℕ → List ℕ → ℕ → Type 0
 SharesVersion f frame v = (s : ShareBody) × ((read_share width f frame ≡ Ok s) × (s.version ≡ v))
 
--- the answer to a delivery is this verdict and this version
-abbrev pub Gets : Verdict → ℕ → Result Delivery Fault → Type 0
-Gets v k (Ok d) = (d.verdict ≡ v) × (d.version ≡ k)
-Gets v k (Err e) = ⊥
+-- the answer to a delivery is this decision
+abbrev pub Gets : Decision → Result Delivery Fault → Type 0
+Gets d (Ok told) = told.decision ≡ d
+Gets d (Err e) = ⊥
 
 -- two commits: the first wrote v to item 5, the second u to item 6 and nothing to item 5
 pub record FiveThenSix (cs : List (List WriteBody)) (v u : List ℕ) : Type 0 where
@@ -82,18 +82,18 @@ module _ (digest : List ℕ → List ℕ) (tag : ℕ → List ℕ → List ℕ) 
     pub shares_occur : (v : ℕ) → 1 ≤ v → v ≤ limit width → (frame : List ℕ) × SharesVersion f frame v
 
   -- what a request with one read, of item 5, gets after those two commits, under an open number
-  abbrev pub ReadGets : ReadBody → List ℕ → Verdict → ℕ → Type 0
-  ReadGets q v verdict version =
+  abbrev pub ReadGets : ReadBody → List ℕ → Decision → Type 0
+  ReadGets q v d =
       (es : List Effect) (u frame : List ℕ) (c s : ℕ) (ws : List WriteBody) (r : Result Delivery Fault)
       → FiveThenSix (commits es) v u → Requested tag frame c s (q ∷ []) ws → Open width (used c es) s
-      → DeliverAnswers digest tag f own es frame r → Gets verdict version r
+      → DeliverAnswers digest tag f own es frame r → Gets d r
 
   -- Commit 1 wrote item 5, commit 2 item 6: item 5 at 1 passes; at 2 with commit 1's digest, at 0 and at 9 it aborts.
   pub record ReadsOfFive : Type 0 where
-    pub at_1 : (v : List ℕ) → ReadGets (read_of_five 1 (digest v)) v Commit 3
-    pub at_2 : (v : List ℕ) → ReadGets (read_of_five 2 (digest v)) v Abort 0
-    pub at_0 : (v d : List ℕ) → ReadGets (read_of_five 0 d) v Abort 0
-    pub at_9 : (v d : List ℕ) → ReadGets (read_of_five 9 d) v Abort 0
+    pub at_1 : (v : List ℕ) → ReadGets (read_of_five 1 (digest v)) v (Commit 3)
+    pub at_2 : (v : List ℕ) → ReadGets (read_of_five 2 (digest v)) v Abort
+    pub at_0 : (v d : List ℕ) → ReadGets (read_of_five 0 d) v Abort
+    pub at_9 : (v d : List ℕ) → ReadGets (read_of_five 9 d) v Abort
     -- for all values, and every read in range
     pub occurs : (v u : List ℕ) (q : ReadBody) → length v ≤ 32 → Bytes v → length u ≤ 32 → Bytes u → ReadIn width q
         → Delivered (λ es c s. FiveThenSix (commits es) v u × Open width (used c es) s) (q ∷ [])

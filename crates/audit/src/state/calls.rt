@@ -1,6 +1,6 @@
 // Making an audit, replaying requests and judging reports.
 ghost use Rattle.std.specs.Prelude.{◌≡◌, ℕ, List, [], ◌∷◌, ◌++◌, Decides};
-ghost use Rattle.digest.specs.Meaning.{written};
+ghost use Rattle.digest.specs.Meaning.{bytes_by};
 ghost use Rattle.history.specs.Answers.{Answered};
 ghost use Rattle.history.specs.Events.{Event, delivered, effects};
 ghost use Rattle.board.specs.Delivering.{KeptOnRefusal};
@@ -21,7 +21,7 @@ use store::Store;
 impl<S: Store, D: Digest, L: Seal> Audit<S, D, L> {
     // A new audit, whose replay starts with a new board.
     pub fn new(place: Place, memory: S::Memory, digest: D, seal: L) -> Audit<S, D, L>
-        ensures { Represents S.Store.holds (λ m. written (D.Digest.of m)) L.Seal.tag (L.Seal.tag seal) place.f place.number result [] [] }
+        ensures { Represents S.Store.holds (bytes_by D.Digest.of) L.Seal.tag (L.Seal.tag seal) place.size.f place.number result [] [] }
     {
         let none = Track::new();
         Audit {
@@ -33,7 +33,7 @@ impl<S: Store, D: Digest, L: Seal> Audit<S, D, L> {
 
     // Replays one request.
     pub fn deliver(&mut self, frame: &[u8]) -> Result<Delivery, Fault>
-        ensures history { (tag : ℕ → List ℕ → List ℕ) (f own : ℕ) (h : List Event) (reports : List Report) → Represents S.Store.holds (λ m. written (D.Digest.of m)) L.Seal.tag tag f own self.old h reports → Answered (λ m. written (D.Digest.of m)) tag f own (effects h) (delivered frame.now result) × Represents S.Store.holds (λ m. written (D.Digest.of m)) L.Seal.tag tag f own self.new (h ++ delivered frame.now result ∷ []) reports }
+        ensures history { (tag : ℕ → List ℕ → List ℕ) (f own : ℕ) (h : List Event) (reports : List Report) → Represents S.Store.holds (bytes_by D.Digest.of) L.Seal.tag tag f own self.old h reports → Answered (bytes_by D.Digest.of) tag f own (effects h) (delivered frame.now result) × Represents S.Store.holds (bytes_by D.Digest.of) L.Seal.tag tag f own self.new (h ++ delivered frame.now result ∷ []) reports }
         ensures refused { KeptOnRefusal self.old self.new result }
     {
         self.board.deliver(frame)
@@ -43,16 +43,12 @@ impl<S: Store, D: Digest, L: Seal> Audit<S, D, L> {
     fn agrees(&self, mark: Mark) -> bool
         ensures { Decides result ((mark.count ≡ self.now.board.count) × (mark.chain ≡ self.now.board.chain)) }
     {
-        let replay = self.board.mark();
-        if mark.count != replay.count {
-            return false;
-        }
-        mark.chain.as_slice() == replay.chain.as_slice()
+        mark == self.board.mark()
     }
 
     // Judges a report and keeps track of it. None, and nothing changed, where there is no such board, or no number left for the report.
     pub fn report(&mut self, board: u8, mark: Mark) -> Option<Judgement>
-        ensures history { (tag : ℕ → List ℕ → List ℕ) (f own : ℕ) (h : List Event) (reports : List Report) → Represents S.Store.holds (λ m. written (D.Digest.of m)) L.Seal.tag tag f own self.old h reports → Reported S.Store.holds (λ m. written (D.Digest.of m)) L.Seal.tag tag f own self.new h reports board mark.count mark.chain result }
+        ensures history { (tag : ℕ → List ℕ → List ℕ) (f own : ℕ) (h : List Event) (reports : List Report) → Represents S.Store.holds (bytes_by D.Digest.of) L.Seal.tag tag f own self.old h reports → Reported S.Store.holds (bytes_by D.Digest.of) L.Seal.tag tag f own self.new h reports board mark.count mark.chain result }
         ensures refused { KeptOnNone self.old self.new result }
     {
         let at = board as usize;
@@ -67,6 +63,6 @@ impl<S: Store, D: Digest, L: Seal> Audit<S, D, L> {
         let track = self.tracks[at];
         self.tracks[at] = track.noted(number, right);
         self.reports = number;
-        Some(Judgement::of(right))
+        Some(Judgement::from(right))
     }
 }

@@ -2,7 +2,7 @@
 ghost use Rattle.std.specs.Prelude.{◌≡◌, ℕ, ◌+◌, ◌<◌, ◌≤◌, List, [], ◌∷◌, ◌++◌, length, Decides, OnOk, ◌≢◌};
 ghost use Rattle.std.specs.List.{AllByRecursion};
 ghost use Rattle.octets.specs.Numbers.{limit};
-ghost use Rattle.digest.specs.Meaning.{written};
+ghost use Rattle.digest.specs.Meaning.{bytes_by};
 ghost use Rattle.entry.specs.Bodies.{entry_body};
 ghost use Rattle.numbers.specs.Clients.{TracksAll};
 ghost use Rattle.request.specs.Requests.{held};
@@ -15,9 +15,11 @@ ghost use Rattle.board.specs.WriteSets.{WriteSets};
 ghost use Rattle.board.specs.Delivering.{Agrees, Committed, Installed, KeptOnRefusal, Shaped, checks, read_said, row_of};
 
 use super::Board;
+use super::shares::put_body;
+use decision::Decision;
 use digest::Digest;
 use entry::parts::{Entry, ItemDigest};
-use fault::{Cause, Fault, Layer, Verdict};
+use fault::{Cause, Fault, Layer};
 use history::Delivery;
 use label::Label;
 use octets::LIMIT;
@@ -28,32 +30,17 @@ use store::item::Item;
 use store::record::Record;
 use store::value::Value;
 
-const NOT_OPEN: Fault = Fault {
-    cause: Cause::NotOpen,
-    layer: Layer::Board,
-    place: 2,
-};
-
-const BANK_FULL: Fault = Fault {
-    cause: Cause::BankFull,
-    layer: Layer::Board,
-    place: 0,
-};
-
 // The digest of a string that is not too long to have one.
 fn digested<D: Digest>(digest: &D, head: &[u8], rest: &[u8]) -> [u8; 32]
     requires { length head.now + length rest.now ≤ 65535 }
-    ensures { result ≡ written (D.Digest.of (head.now ++ rest.now)) }
+    ensures { result ≡ bytes_by D.Digest.of (head.now ++ rest.now) }
 {
-    match digest.digest(head, rest) {
-        Ok(made) => made,
-        Err(_) => unreachable(),
-    }
+    digest.digest(head, rest).unwrap()
 }
 
 // Whether a read has the version and the digest held; at version 0 the digest is the empty value's.
 fn agrees<S: Store, D: Digest>(store: &S, digest: &D, read: Read<'_>) -> bool
-    ensures { Decides result (Agrees (λ m. written (D.Digest.of m)) (S.Store.holds store.now) (read_said read.entry)) }
+    ensures { Decides result (Agrees (bytes_by D.Digest.of) (S.Store.holds store.now) (read_said read.entry)) }
 {
     let Some(item) = Item::new(read.item) else {
         return false;
@@ -72,47 +59,38 @@ fn agrees<S: Store, D: Digest>(store: &S, digest: &D, read: Read<'_>) -> bool
 // The entry of a commit: each item written, with the digest of its value.
 fn make_entry<D: Digest>(digest: &D, version: u32, request: Request<'_>) -> Entry
     requires { (Shaped request) × (version ≤ limit 2) }
-    ensures { entry_body result ≡ entry_of (λ m. written (D.Digest.of m)) version (held request.entry).writes }
+    ensures { entry_body result ≡ entry_of (bytes_by D.Digest.of) version (held request.entry).writes }
 {
-    let mut built = match Entry::new(version) {
-        Some(empty) => empty,
-        None => unreachable(),
-    };
-    for i in 0..request.plan.top.writes as usize {
-        if let Some(write) = request.write(i) {
-            let made = digested(digest, &[], write.value);
-            let _ = built.push(ItemDigest::new(write.item, made));
-        }
+    let mut built = Entry::new(version).unwrap();
+    for write in request.writes() {
+        let made = digested(digest, &[], write.value);
+        // A request has no more writes than an entry has room for.
+        let _ = built.push(ItemDigest::new(write.item, made));
     }
     built
 }
 
 // The chain after an entry: the digest of the old chain and the entry's body, under their label.
 fn next_chain<D: Digest>(digest: &D, chain: &[u8; 32], entry: &Entry) -> [u8; 32]
-    ensures { result ≡ written (D.Digest.of (chain_string (λ m. written (D.Digest.of m)) chain.now (entry_body entry.now))) }
+    ensures { result ≡ bytes_by D.Digest.of (chain_string (bytes_by D.Digest.of) chain.now (entry_body entry.now)) }
 {
     let label = Label::Chain.bytes();
     let mut head = [0; 36];
     head[0..4].copy_from_slice(&label);
     head[4..36].copy_from_slice(chain);
-    let n = entry.body_length();
     let mut body = [0; 267];
-    match entry.write_body(&mut body) {
-        Some(_) => digested(digest, &head, &body[0..n]),
-        None => unreachable(),
-    }
+    let n = put_body(*entry, &mut body);
+    digested(digest, &head, &body[0..n])
 }
 
 // Installs every write under the commit's version.
 fn install_all<S: Store, D: Digest>(store: &mut S, digest: &D, version: u32, request: Request<'_>)
     requires { (Shaped request) × (1 ≤ version) }
-    ensures { Installed (λ m. written (D.Digest.of m)) version (held request.entry).writes (S.Store.holds store.old) (S.Store.holds store.new) }
+    ensures { Installed (bytes_by D.Digest.of) version (held request.entry).writes (S.Store.holds store.old) (S.Store.holds store.new) }
 {
-    for i in 0..request.plan.top.writes as usize {
-        if let Some(write) = request.write(i) {
-            let made = digested(digest, &[], write.value);
-            install_one(store, version, write.item, write.value, made);
-        }
+    for write in request.writes() {
+        let made = digested(digest, &[], write.value);
+        install_one(store, version, write.item, write.value, made);
     }
 }
 
@@ -150,10 +128,10 @@ impl<S: Store, D: Digest, L: Seal> Board<S, D, L> {
         self.seal
             .verify(signer, &label, signed, request.tag, at as u32)?;
         if !self.clients.is_open(top.client, top.sequence) {
-            return Err(NOT_OPEN);
+            return Err(Cause::NotOpen.at(Layer::Board, 2));
         }
         if self.count >= LIMIT {
-            return Err(BANK_FULL);
+            return Err(Cause::BankFull.at(Layer::Board, 0));
         }
         Ok(())
     }
@@ -161,13 +139,11 @@ impl<S: Store, D: Digest, L: Seal> Board<S, D, L> {
     // Whether every read agrees with what the store holds.
     fn judge(&self, request: Request<'_>) -> bool
         requires { Shaped request }
-        ensures { Decides result (AllByRecursion (Agrees (λ m. written (D.Digest.of m)) (S.Store.holds self.now.store)) (held request.entry).reads) }
+        ensures { Decides result (AllByRecursion (Agrees (bytes_by D.Digest.of) (S.Store.holds self.now.store)) (held request.entry).reads) }
     {
-        for i in 0..request.plan.top.reads as usize {
-            if let Some(read) = request.read(i) {
-                if !agrees(&self.store, &self.digest, read) {
-                    return false;
-                }
+        for read in request.reads() {
+            if !agrees(&self.store, &self.digest, read) {
+                return false;
             }
         }
         true
@@ -177,7 +153,7 @@ impl<S: Store, D: Digest, L: Seal> Board<S, D, L> {
     fn commit(&mut self, request: Request<'_>) -> u32
         requires { (Shaped request) × (self.old.count < limit 2) }
         ensures version { result ≡ self.old.count + 1 }
-        ensures commits { Committed (λ m. written (D.Digest.of m)) S.Store.holds self.old self.new (held request.entry).writes }
+        ensures commits { Committed (bytes_by D.Digest.of) S.Store.holds self.old self.new (held request.entry).writes }
     {
         let version = self.count + 1;
         let entry = make_entry(&self.digest, version, request);
@@ -191,7 +167,7 @@ impl<S: Store, D: Digest, L: Seal> Board<S, D, L> {
 
     // Every read is judged before a write is installed; a refusal leaves the board as it was.
     pub fn deliver(&mut self, frame: &[u8]) -> Result<Delivery, Fault>
-        ensures history { (tag : ℕ → List ℕ → List ℕ) (f own : ℕ) (h : List Event) → Represents S.Store.holds (λ m. written (D.Digest.of m)) L.Seal.tag tag f own self.old h → Answered (λ m. written (D.Digest.of m)) tag f own (effects h) (delivered frame.now result) × Represents S.Store.holds (λ m. written (D.Digest.of m)) L.Seal.tag tag f own self.new (h ++ delivered frame.now result ∷ []) }
+        ensures history { (tag : ℕ → List ℕ → List ℕ) (f own : ℕ) (h : List Event) → Represents S.Store.holds (bytes_by D.Digest.of) L.Seal.tag tag f own self.old h → Answered (bytes_by D.Digest.of) tag f own (effects h) (delivered frame.now result) × Represents S.Store.holds (bytes_by D.Digest.of) L.Seal.tag tag f own self.new (h ++ delivered frame.now result ∷ []) }
         ensures sets { (h : List Event) → WriteSets h → WriteSets (h ++ delivered frame.now result ∷ []) }
         ensures refused { KeptOnRefusal self.old self.new result }
     {
@@ -199,22 +175,21 @@ impl<S: Store, D: Digest, L: Seal> Board<S, D, L> {
         self.check(request)?;
         let pass = self.judge(request);
         let top = request.plan.top;
+        // On a copy, so that a refusal leaves the board as it was, part for part.
         let mut clients = self.clients;
-        let Some(opened) = clients.use_up(top.client, top.sequence) else {
-            return Err(NOT_OPEN);
+        let Ok(opened) = clients.use_up(top.client, top.sequence) else {
+            return Err(Cause::NotOpen.at(Layer::Board, 2));
         };
         self.clients = clients;
         if !pass {
             return Ok(Delivery {
-                verdict: Verdict::Abort,
-                version: 0,
+                decision: Decision::Abort,
                 opened,
             });
         }
         let version = self.commit(request);
         Ok(Delivery {
-            verdict: Verdict::Commit,
-            version,
+            decision: Decision::Commit { version },
             opened,
         })
     }

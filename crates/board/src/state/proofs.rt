@@ -7,7 +7,7 @@ ghost use Rattle.record.specs.Chains.{tested};
 ghost use Rattle.record.specs.Writing.{filled};
 ghost use Rattle.proof.specs.Bodies.{proof_bytes};
 ghost use Rattle.proof.specs.Rules.{proof_of};
-ghost use Rattle.digest.specs.Meaning.{written};
+ghost use Rattle.digest.specs.Meaning.{bytes_by};
 ghost use Rattle.history.specs.Answers.{Answered, ProofReadsBack};
 ghost use Rattle.history.specs.Events.{Event, effects, proved};
 ghost use Rattle.board.specs.Standing.{Represents};
@@ -23,13 +23,6 @@ use seal::Seal;
 use store::Store;
 use window::ring::Window;
 
-// The lowest version that a call means: 0 counts as 1.
-fn first_of(low: u32) -> u32
-    ensures { result ≡ max 1 low }
-{
-    if low < 1 { 1 } else { low }
-}
-
 // Puts the entries of the versions from the first on, with their shares, to the front of a list, and answers the length of their frame.
 fn gather(window: &Window, first: u32, count: usize, entries: &mut [SealedEntry]) -> usize
     requires { (first ≤ limit 2 + 1) × ((count ≤ 32) × (length entries.old ≡ 32)) }
@@ -37,6 +30,7 @@ fn gather(window: &Window, first: u32, count: usize, entries: &mut [SealedEntry]
     ensures size { result ≡ 5 + length (flat_map (sealed_bytes 2) (map (sealed_in window.now) (range_with_len first count))) }
 {
     let mut size = 5;
+    // The index is a version's distance from the first, and its place in the list.
     for i in 0..count {
         let sealed = window.sealed(first + i as u32);
         size += sealed.length();
@@ -51,25 +45,13 @@ impl<S: Store, D: Digest, L: Seal> Board<S, D, L> {
         ensures { result ≡ range_now self.now.count low high }
     {
         if high < low {
-            return Err(Fault {
-                cause: Cause::Malformed,
-                layer: Layer::Frame,
-                place: 3,
-            });
+            return Err(Cause::Malformed.at(Layer::Frame, 3));
         }
         if self.count < high {
-            return Err(Fault {
-                cause: Cause::NotCommitted,
-                layer: Layer::Board,
-                place: 0,
-            });
+            return Err(Cause::NotCommitted.at(Layer::Board, 0));
         }
-        if 0 < high && first_of(low) + 32 <= self.count {
-            return Err(Fault {
-                cause: Cause::Evicted,
-                layer: Layer::Board,
-                place: 0,
-            });
+        if 0 < high && low.max(1) + 32 <= self.count {
+            return Err(Cause::Evicted.at(Layer::Board, 0));
         }
         Ok(())
     }
@@ -77,16 +59,11 @@ impl<S: Store, D: Digest, L: Seal> Board<S, D, L> {
     // Refuses the lowest of the versions from the first on that has fewer than f + 1 shares.
     fn check_sealed(&self, first: u32, count: u32) -> Result<(), Fault>
         requires { (first ≤ limit 2 + 1) × (count ≤ 32) }
-        ensures { result ≡ tested (map (sealed_row self.now.window self.now.place.f) (range_with_len first count)) }
+        ensures { result ≡ tested (map (sealed_row self.now.window self.now.place.size.f) (range_with_len first count)) }
     {
-        for i in 0..count {
-            let version = first + i;
+        for version in first..first + count {
             if self.window.shares(version) <= self.place.faults() {
-                return Err(Fault {
-                    cause: Cause::Unsealed,
-                    layer: Layer::Board,
-                    place: version,
-                });
+                return Err(Cause::Unsealed.at(Layer::Board, version));
             }
         }
         Ok(())
@@ -94,23 +71,20 @@ impl<S: Store, D: Digest, L: Seal> Board<S, D, L> {
 
     // A proof from what the window holds, to the front of a buffer.
     fn put_proof(&self, low: u32, high: u32, out: &mut [u8]) -> Result<usize, Fault>
-        ensures answer { result ≡ proof_now self.now.window self.now.place.f self.now.count low high (length out.old) }
+        ensures answer { result ≡ proof_now self.now.window self.now.place.size.f self.now.count low high (length out.old) }
         ensures bytes { out.new ≡ filled result (proof_bytes 2 (proof_in self.now.window low high)) out.old }
-        ensures back { (n : ℕ) → result ≡ Ok n → proof_of 2 self.now.place.f (take n out.new) ≡ Ok (proof_in self.now.window low high) }
+        ensures back { (n : ℕ) → result ≡ Ok n → proof_of 2 self.now.place.size.f (take n out.new) ≡ Ok (proof_in self.now.window low high) }
     {
         self.check_range(low, high)?;
-        let first = first_of(low);
+        // A lowest version 0 counts as 1.
+        let first = low.max(1);
         let count = high + 1 - first;
         self.check_sealed(first, count)?;
         let none = SealedEntry::new(self.window.entry(first));
         let mut entries = [none; 32];
         let size = gather(&self.window, first, count as usize, &mut entries);
         if out.len() < size {
-            return Err(Fault {
-                cause: Cause::NoRoom,
-                layer: Layer::Board,
-                place: 0,
-            });
+            return Err(Cause::NoRoom.at(Layer::Board, 0));
         }
         write_proof(
             first,
@@ -123,10 +97,10 @@ impl<S: Store, D: Digest, L: Seal> Board<S, D, L> {
 
     // Writes a proof of the versions from low to high to the front of a buffer; a lowest 0 counts as 1.
     pub fn proof(&self, low: u32, high: u32, out: &mut [u8]) -> Result<usize, Fault>
-        ensures answer { result ≡ proof_now self.now.window self.now.place.f self.now.count low high (length out.old) }
+        ensures answer { result ≡ proof_now self.now.window self.now.place.size.f self.now.count low high (length out.old) }
         ensures bytes { out.new ≡ filled result (proof_bytes 2 (proof_in self.now.window low high)) out.old }
-        ensures back { (n : ℕ) → result ≡ Ok n → proof_of 2 self.now.place.f (take n out.new) ≡ Ok (proof_in self.now.window low high) }
-        ensures history { (tag : ℕ → List ℕ → List ℕ) (f own : ℕ) (h : List Event) → Represents S.Store.holds (λ m. written (D.Digest.of m)) L.Seal.tag tag f own self.now h → WriteSets h → Answered (λ m. written (D.Digest.of m)) tag f own (effects h) (proved low high out.old out.new result) × ProofReadsBack (λ m. written (D.Digest.of m)) tag f own (effects h) low high out.new result × Represents S.Store.holds (λ m. written (D.Digest.of m)) L.Seal.tag tag f own self.now (h ++ proved low high out.old out.new result ∷ []) }
+        ensures back { (n : ℕ) → result ≡ Ok n → proof_of 2 self.now.place.size.f (take n out.new) ≡ Ok (proof_in self.now.window low high) }
+        ensures history { (tag : ℕ → List ℕ → List ℕ) (f own : ℕ) (h : List Event) → Represents S.Store.holds (bytes_by D.Digest.of) L.Seal.tag tag f own self.now h → WriteSets h → Answered (bytes_by D.Digest.of) tag f own (effects h) (proved low high out.old out.new result) × ProofReadsBack (bytes_by D.Digest.of) tag f own (effects h) low high out.new result × Represents S.Store.holds (bytes_by D.Digest.of) L.Seal.tag tag f own self.now (h ++ proved low high out.old out.new result ∷ []) }
     {
         self.put_proof(low, high, out)
     }

@@ -6,7 +6,7 @@ ghost use Rattle.label.specs.Labels.{labelled};
 ghost use Rattle.window.specs.Windows.{Added, entry_in};
 ghost use Rattle.share.specs.Shares.{ShareReads, read_share};
 ghost use Rattle.history.specs.Tables.{Read};
-ghost use Rattle.digest.specs.Meaning.{written};
+ghost use Rattle.digest.specs.Meaning.{bytes_by};
 ghost use Rattle.history.specs.Answers.{Answered};
 ghost use Rattle.history.specs.Events.{Event, effects, shared_in};
 ghost use Rattle.board.specs.Standing.{Represents};
@@ -19,80 +19,80 @@ use entry::parts::Pair;
 use fault::{Cause, Fault, Layer};
 use label::Label;
 use seal::Seal;
-use share::read_share;
+use share::{Share, read_share};
 use store::Store;
-
-const NO_SHARE_DUE: Fault = Fault {
-    cause: Cause::NoShareDue,
-    layer: Layer::Board,
-    place: 0,
-};
 
 impl<S: Store, D: Digest, L: Seal> Board<S, D, L> {
     // Refuses a share of a board that sent one, and any where f + 1 are there.
-    fn check_due(&self, version: u32, signer: u8) -> Result<(), Fault>
-        ensures { result ≡ due_now self.now.window self.now.place.f version signer }
+    fn check_due(&self, share: Share<'_>) -> Result<(), Fault>
+        ensures { result ≡ due_now self.now.window self.now.place.size.f share.entry.version share.entry.signer }
     {
-        if self.window.has(version, signer) {
-            return Err(NO_SHARE_DUE);
+        if self.window.has(share.version, share.signer) {
+            return Err(Cause::NoShareDue.at(Layer::Board, 0));
         }
-        if self.window.shares(version) > self.place.faults() {
-            return Err(NO_SHARE_DUE);
+        if self.window.shares(share.version) > self.place.faults() {
+            return Err(Cause::NoShareDue.at(Layer::Board, 0));
         }
         Ok(())
     }
 
     // Refuses a tag that is not the signer's over the entry that the window holds.
-    fn check_tag(&self, signer: u8, version: u32, tag: &[u8]) -> Result<(), Fault>
-        requires { signer ≤ 31 }
-        ensures { Joins (Ok tt) (Ok tt) (tag.now ≡ L.Seal.tag self.now.seal signer (labelled entry-label (entry_bytes 2 (entry_in self.now.window version)))) (λ _. Unit {0}) result }
+    fn check_tag(&self, share: Share<'_>) -> Result<(), Fault>
+        requires { share.signer ≤ 31 }
+        ensures { Joins (Ok tt) (Ok tt) (share.entry.tag.now ≡ L.Seal.tag self.now.seal share.entry.signer (labelled entry-label (entry_bytes 2 (entry_in self.now.window share.entry.version)))) (λ _. Unit {0}) result }
     {
         let mut body = [0; 267];
-        let n = put_body(self.window.entry(version), &mut body);
-        self.seal
-            .verify(signer, &Label::Entry.bytes(), &body[0..n], tag, 4)
+        let n = put_body(self.window.entry(share.version), &mut body);
+        self.seal.verify(
+            share.signer,
+            &Label::Entry.bytes(),
+            &body[0..n],
+            share.tag,
+            4,
+        )
     }
 
-    fn judge_share(&self, signer: u8, version: u32, tag: &[u8]) -> Result<(), Fault>
-        requires { signer ≤ 31 }
-        ensures { Joins (kept_now self.now.count version) (due_now self.now.window self.now.place.f version signer) (tag.now ≡ L.Seal.tag self.now.seal signer (labelled entry-label (entry_bytes 2 (entry_in self.now.window version)))) (λ _. Unit {0}) result }
+    fn judge_share(&self, share: Share<'_>) -> Result<(), Fault>
+        requires { share.signer ≤ 31 }
+        ensures { Joins (kept_now self.now.count share.entry.version) (due_now self.now.window self.now.place.size.f share.entry.version share.entry.signer) (share.entry.tag.now ≡ L.Seal.tag self.now.seal share.entry.signer (labelled entry-label (entry_bytes 2 (entry_in self.now.window share.entry.version)))) (λ _. Unit {0}) result }
     {
-        self.check_kept(version)?;
-        self.check_due(version, signer)?;
-        self.check_tag(signer, version, tag)
+        self.check_kept(share.version)?;
+        self.check_due(share)?;
+        self.check_tag(share)
     }
 
     // Judges a share, and puts it to the others of its entry.
-    fn take_share(&mut self, signer: u8, version: u32, tag: &[u8]) -> Result<u8, Fault>
-        requires signer_bound { signer ≤ 31 }
-        requires tag_len { length tag.now ≡ 16 }
-        ensures answer { Joins (kept_now self.old.count version) (due_now self.old.window self.old.place.f version signer) (tag.now ≡ L.Seal.tag self.old.seal signer (labelled entry-label (entry_bytes 2 (entry_in self.old.window version)))) (Added self.old.window self.new.window version signer tag.now) result }
+    fn take_share(&mut self, share: Share<'_>) -> Result<u8, Fault>
+        requires signer_bound { share.signer ≤ 31 }
+        requires tag_len { length share.tag.now ≡ 16 }
+        ensures answer { Joins (kept_now self.old.count share.entry.version) (due_now self.old.window self.old.place.size.f share.entry.version share.entry.signer) (share.entry.tag.now ≡ L.Seal.tag self.old.seal share.entry.signer (labelled entry-label (entry_bytes 2 (entry_in self.old.window share.entry.version)))) (Added self.old.window self.new.window share.entry.version share.entry.signer share.entry.tag.now) result }
         ensures refused { Refusal result (self.new ≡ self.old) }
         ensures rest { Rest self.old self.new }
     {
-        self.judge_share(signer, version, tag)?;
+        self.judge_share(share)?;
         let mut copy = [0; 16];
-        copy.copy_from_slice(tag);
-        Ok(self.window.add(version, Pair::new(signer, copy)))
+        copy.copy_from_slice(share.tag);
+        let pair = Pair::new(share.signer, copy);
+        Ok(self.window.add(share.version, pair))
     }
 
     // Reads a share, judges it and takes it.
     fn read_and_take(&mut self, frame: &[u8]) -> Result<u8, Fault>
-        ensures answer { Read (read_share 2 self.old.place.f frame.now) (λ s. Joins (kept_now self.old.count s.version) (due_now self.old.window self.old.place.f s.version s.signer) (s.tag ≡ L.Seal.tag self.old.seal s.signer (labelled entry-label (entry_bytes 2 (entry_in self.old.window s.version)))) (Added self.old.window self.new.window s.version s.signer s.tag)) result }
-        ensures reads { ShareReads 2 self.old.place.f frame.now (read_share 2 self.old.place.f frame.now) }
+        ensures answer { Read (read_share 2 self.old.place.size.f frame.now) (λ s. Joins (kept_now self.old.count s.version) (due_now self.old.window self.old.place.size.f s.version s.signer) (s.tag ≡ L.Seal.tag self.old.seal s.signer (labelled entry-label (entry_bytes 2 (entry_in self.old.window s.version)))) (Added self.old.window self.new.window s.version s.signer s.tag)) result }
+        ensures reads { ShareReads 2 self.old.place.size.f frame.now (read_share 2 self.old.place.size.f frame.now) }
         ensures refused { Refusal result (self.new ≡ self.old) }
         ensures rest { Rest self.old self.new }
     {
         let share = read_share(frame, self.place.faults())?;
-        self.take_share(share.signer, share.version, share.tag)
+        self.take_share(share)
     }
 
     // Takes in a board's share of an entry that is kept, and answers how many the entry now has. A refusal changes nothing.
     pub fn share_in(&mut self, frame: &[u8]) -> Result<u8, Fault>
-        ensures answer { Read (read_share 2 self.old.place.f frame.now) (λ s. Joins (kept_now self.old.count s.version) (due_now self.old.window self.old.place.f s.version s.signer) (s.tag ≡ L.Seal.tag self.old.seal s.signer (labelled entry-label (entry_bytes 2 (entry_in self.old.window s.version)))) (Added self.old.window self.new.window s.version s.signer s.tag)) result }
+        ensures answer { Read (read_share 2 self.old.place.size.f frame.now) (λ s. Joins (kept_now self.old.count s.version) (due_now self.old.window self.old.place.size.f s.version s.signer) (s.tag ≡ L.Seal.tag self.old.seal s.signer (labelled entry-label (entry_bytes 2 (entry_in self.old.window s.version)))) (Added self.old.window self.new.window s.version s.signer s.tag)) result }
         ensures refused { Refusal result (self.new ≡ self.old) }
         ensures rest { Rest self.old self.new }
-        ensures history { (tag : ℕ → List ℕ → List ℕ) (f own : ℕ) (h : List Event) → Represents S.Store.holds (λ m. written (D.Digest.of m)) L.Seal.tag tag f own self.old h → Answered (λ m. written (D.Digest.of m)) tag f own (effects h) (shared_in frame.now result) × Represents S.Store.holds (λ m. written (D.Digest.of m)) L.Seal.tag tag f own self.new (h ++ shared_in frame.now result ∷ []) }
+        ensures history { (tag : ℕ → List ℕ → List ℕ) (f own : ℕ) (h : List Event) → Represents S.Store.holds (bytes_by D.Digest.of) L.Seal.tag tag f own self.old h → Answered (bytes_by D.Digest.of) tag f own (effects h) (shared_in frame.now result) × Represents S.Store.holds (bytes_by D.Digest.of) L.Seal.tag tag f own self.new (h ++ shared_in frame.now result ∷ []) }
     {
         self.read_and_take(frame)
     }

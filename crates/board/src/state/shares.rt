@@ -5,7 +5,7 @@ ghost use Rattle.label.specs.declared.Label.TheVariants.{Entry as entry-label};
 ghost use Rattle.label.specs.Labels.{labelled};
 ghost use Rattle.record.specs.Writing.{filled};
 ghost use Rattle.window.specs.Windows.{entry_in};
-ghost use Rattle.digest.specs.Meaning.{written};
+ghost use Rattle.digest.specs.Meaning.{bytes_by};
 ghost use Rattle.history.specs.Answers.{Answered};
 ghost use Rattle.history.specs.Events.{Event, effects, shared_out};
 ghost use Rattle.board.specs.Standing.{Represents};
@@ -47,18 +47,10 @@ impl<S: Store, D: Digest, L: Seal> Board<S, D, L> {
         ensures { result ≡ kept_now self.now.count version }
     {
         if version > self.count {
-            return Err(Fault {
-                cause: Cause::NotCommitted,
-                layer: Layer::Board,
-                place: 0,
-            });
+            return Err(Cause::NotCommitted.at(Layer::Board, 0));
         }
         if version + 32 <= self.count {
-            return Err(Fault {
-                cause: Cause::Evicted,
-                layer: Layer::Board,
-                place: 0,
-            });
+            return Err(Cause::Evicted.at(Layer::Board, 0));
         }
         Ok(())
     }
@@ -69,19 +61,11 @@ impl<S: Store, D: Digest, L: Seal> Board<S, D, L> {
         ensures bytes { out.new ≡ filled result (share_now (L.Seal.tag self.now.seal) self.now.place.number (entry_in self.now.window version) version) out.old }
     {
         if version == 0 {
-            return Err(Fault {
-                cause: Cause::Malformed,
-                layer: Layer::Frame,
-                place: 1,
-            });
+            return Err(Cause::Malformed.at(Layer::Frame, 1));
         }
         self.check_kept(version)?;
         if out.len() < 20 {
-            return Err(Fault {
-                cause: Cause::NoRoom,
-                layer: Layer::Board,
-                place: 0,
-            });
+            return Err(Cause::NoRoom.at(Layer::Board, 0));
         }
         let tag = self.sign(version)?;
         let signer = self.place.number();
@@ -100,7 +84,7 @@ impl<S: Store, D: Digest, L: Seal> Board<S, D, L> {
     pub fn share_out(&self, version: u32, out: &mut [u8]) -> Result<usize, Fault>
         ensures answer { result ≡ share_out_now self.now.count version (length out.old) }
         ensures bytes { out.new ≡ filled result (share_now (L.Seal.tag self.now.seal) self.now.place.number (entry_in self.now.window version) version) out.old }
-        ensures history { (tag : ℕ → List ℕ → List ℕ) (f own : ℕ) (h : List Event) → Represents S.Store.holds (λ m. written (D.Digest.of m)) L.Seal.tag tag f own self.now h → Answered (λ m. written (D.Digest.of m)) tag f own (effects h) (shared_out version out.old out.new result) × Represents S.Store.holds (λ m. written (D.Digest.of m)) L.Seal.tag tag f own self.now (h ++ shared_out version out.old out.new result ∷ []) }
+        ensures history { (tag : ℕ → List ℕ → List ℕ) (f own : ℕ) (h : List Event) → Represents S.Store.holds (bytes_by D.Digest.of) L.Seal.tag tag f own self.now h → Answered (bytes_by D.Digest.of) tag f own (effects h) (shared_out version out.old out.new result) × Represents S.Store.holds (bytes_by D.Digest.of) L.Seal.tag tag f own self.now (h ++ shared_out version out.old out.new result ∷ []) }
     {
         self.put_share(version, out)
     }

@@ -8,23 +8,17 @@ ghost use Rattle.reader.specs.Accepted.{AcceptedMeansHeld, HonestProofDecides};
 use super::Reader;
 use crate::items::judge;
 use crate::range::{covers, highest, lowest};
-use crate::size::ReaderSize;
 use crate::tags::verify_proof;
+use cluster_size::ClusterSize;
 use digest::Digest;
 use fault::{Cause, Fault, Layer};
 use proof::read::read_proof;
 use reading::read_reading;
 use seal::Seal;
 
-const WRONG_RANGE: Fault = Fault {
-    cause: Cause::WrongRange,
-    layer: Layer::Reader,
-    place: 1,
-};
-
 impl<D: Digest, L: Seal> Reader<D, L> {
     // A reader with the size, the digest and the seal of the boards.
-    pub fn new(size: ReaderSize, digest: D, seal: L) -> Reader<D, L>
+    pub fn new(size: ClusterSize, digest: D, seal: L) -> Reader<D, L>
         ensures { (result.size ≡ size) × (result.digest ≡ digest) × (result.seal ≡ seal) }
     {
         Reader { size, digest, seal }
@@ -38,7 +32,7 @@ impl<D: Digest, L: Seal> Reader<D, L> {
         let proven = read_proof(proof, self.size.faults())?;
         let high = highest(read);
         if !covers(proven, lowest(read), high) {
-            return Err(WRONG_RANGE);
+            return Err(Cause::WrongRange.at(Layer::Reader, 1));
         }
         verify_proof(&self.seal, proven)?;
         judge(&self.digest, read, proven)?;

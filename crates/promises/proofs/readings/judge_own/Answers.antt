@@ -6,7 +6,7 @@ use Rattle.promises.proofs.readings.judge_own.Goals as goal
 pub slice_bounds-judge-end-in-Ok : goal.slice_bounds-judge-end-in-Ok
 slice_bounds-judge-end-in-Ok g c =
     let b = c.args.board.now in
-    let fits = proof-fits b.window b.place.f b.count c.args.low c.args.high (length c.args.room.now) c.in-Ok.n c.in-Ok.ensures.answer in
+    let fits = proof-fits b.window b.place.size.f b.count c.args.low c.args.high (length c.args.room.now) c.in-Ok.n c.in-Ok.ensures.answer in
     sym (length-take-le c.in-Ok.n c.proof.new.out (omega (arith, c.proof.auto.out)))
 
 pub returns-in-Ok : goal.returns-in-Ok

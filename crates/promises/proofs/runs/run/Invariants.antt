@@ -1,5 +1,5 @@
 use Rattle.std.proofs.Common.{◌≡◌, ℕ, List, [], take, drop}
-use Rattle.digest.specs.Meaning.{written}
+use Rattle.digest.specs.Meaning.{bytes_by}
 use Rattle.history.specs.Answers.{Lawful}
 use Rattle.history.specs.Events.{Event}
 use Rattle.board.specs.Standing.{Represents}
@@ -12,9 +12,9 @@ use Rattle.promises.proofs.runs.run.Given as goal
 abbrev pub invariant-loop-i : goal.invariant-loop-i
 invariant-loop-i g l =
     ((tag : ℕ → List ℕ → List ℕ) (f own : ℕ) (h : List Event)
-    → Represents g.S.Store.holds (λ m. written (g.D.Digest.of m)) g.L.Seal.tag tag f own l.initial.board h
+    → Represents g.S.Store.holds (bytes_by g.D.Digest.of) g.L.Seal.tag tag f own l.initial.board h
     → WriteSets h
-    → Lawful (λ m. written (g.D.Digest.of m)) tag f own [] h
-    → AllReadBack (λ m. written (g.D.Digest.of m)) tag f own [] h
-    → Run g.S.Store.holds (λ m. written (g.D.Digest.of m)) g.L.Seal.tag tag f own h (take l.i l.calls) (take l.i l.answers) l.initial.room l.room l.board)
+    → Lawful (bytes_by g.D.Digest.of) tag f own [] h
+    → AllReadBack (bytes_by g.D.Digest.of) tag f own [] h
+    → Run g.S.Store.holds (bytes_by g.D.Digest.of) g.L.Seal.tag tag f own h (take l.i l.calls) (take l.i l.answers) l.initial.room l.room l.board)
     × (drop l.i l.answers ≡ drop l.i l.initial.answers)

@@ -1,45 +1,58 @@
-use Rattle.std.proofs.Common.{refl, arith}
+use Rattle.std.proofs.Common.{length, Some, None, Err, refl, sym, subst, arith}
+use Rattle.std.proofs.lemmas.List.{length_push}
 use Rattle.digest.specs.Meaning.{written}
-use Rattle.reader.proofs.Judging.{agreed_all, agreeing-more, passed_all, passed_end, value_at_0, value-short, wrong-item}
+use Rattle.proof.proofs.Walking.{entry_came}
+use Rattle.reader.specs.Items.{JudgesItems}
+use Rattle.reader.proofs.Judging.{Agreeing, PassedItems, agreed_all, agreeing-more, passed_judges, value_at_0, value-short, wrong-item}
+use Rattle.reader.proofs.Spots.{item_came, item_past}
 use Rattle.reader.proofs.items.judge.Goals as goal
-use Rattle.reader.proofs.items.judge.Goals.{then-read-eq0+else-read-gt0, else-read-eq0}
+use Rattle.reader.proofs.items.judge.Goals.{else-read-eq0-via-then-read-eq0+else-read-gt0, else-read-eq0-via-else-read-eq0}
 
 pub readings-init : goal.readings-init
 readings-init g c = (refl, λ bs f b judged. tt)
 
 pub returns-in_err-made : goal.returns-in_err-made
 returns-in_err-made g c =
-    value-short (λ m. written (g.D.Digest.of m)) c.args.reading c.args.proof c.readings.i c.in-Some.read c.in-Some.ensures.answer c.in_err-made.ensures.0 c.from_residual.result
+    let here = item_came c.readings.read-iterator c.readings.yielded (Some c.in-Some.read) c.next.new.self c.items-read-items.ensures.all c.into_iter-read-iterator.ensures.into_iter_gives c.readings.yielded_by c.in-Some.ensures.steps in
+    value-short (λ m. written (g.D.Digest.of m)) c.args.reading c.args.proof (length c.readings.yielded) c.in-Some.read here c.in_err-made.ensures.0 c.from_residual.result
 
-pub loop-j-init : goal.loop-j-init
-loop-j-init g c = (c.readings.invariant.0, λ bs f b judged. tt)
+pub loop-part-init : goal.loop-part-init
+loop-part-init g c = (c.readings.invariant.0, λ bs f b judged. tt)
 
-pub loop-j-preserved : goal.loop-j-preserved
-loop-j-preserved g c =
-    (c.loop-j.invariant.0, agreeing-more c.args.reading c.args.proof c.loop-j.j c.in-Some.read c.in_ok-made.made c.in-Some-entry.part c.in-Some-entry.ensures c.loop-j.invariant.1 c.in_default-wrong_by.ensures)
+pub loop-part-preserved : goal.loop-part-preserved
+loop-part-preserved g c =
+    let found = entry_came c.loop-part.yielded (Some c.in-Some-part.part) c.next-in-loop-part.new.self c.entries-part-items.ensures c.into_iter-part-iterator.ensures.into_iter_gives c.loop-part.yielded_by c.in-Some-part.ensures.steps in (
+      c.loop-part.invariant.0,
+      subst (Agreeing c.args.reading c.args.proof c.in-Some.read c.in_ok-made.made) (sym (length_push c.loop-part.yielded c.in-Some-part.part))
+          (agreeing-more c.args.reading c.args.proof (length c.loop-part.yielded) c.in-Some.read c.in_ok-made.made c.in-Some-part.part found c.loop-part.invariant.1 c.in_default.ensures),
+    )
 
 pub readings-preserved : goal.readings-preserved
-readings-preserved g c = (
-  c.loop-j.invariant.0,
-  agreed_all (λ m. written (g.D.Digest.of m)) c.args.reading c.args.proof c.readings.i c.in-Some.read c.in-Some.ensures.answer c.in_ok-made.made c.in_ok-made.ensures.1
-      (λ z. elim c.if-read-eq0.branch [ then-read-eq0+else-read-gt0 w ↦ omega arith | else-read-eq0 w ↦ absurd (w.if-read-eq0.false z) ])
-      c.loop-j.j c.len-j-end.result c.len-j-end.ensures c.loop-j-test.false c.loop-j.invariant.1 c.readings.invariant.1,
-)
-
-pub returns-after-readings : goal.returns-after-readings
-returns-after-readings g c =
-    rw c.readings.invariant.0 (passed_all (λ m. written (g.D.Digest.of m)) c.args.reading c.args.proof c.readings.i c.count-i-end.result c.count-i-end.ensures c.readings-test.false c.readings.invariant.1)
-
-pub returns-in_default : goal.returns-in_default
-returns-in_default g c =
-    rw c.readings.invariant.0 (passed_end (λ m. written (g.D.Digest.of m)) c.args.reading c.args.proof c.readings.i c.in_default.ensures.answer c.readings.invariant.1)
+readings-preserved g c =
+    let here = item_came c.readings.read-iterator c.readings.yielded (Some c.in-Some.read) c.next.new.self c.items-read-items.ensures.all c.into_iter-read-iterator.ensures.into_iter_gives c.readings.yielded_by c.in-Some.ensures.steps in
+    let found = entry_came c.loop-part.yielded None c.next-in-loop-part.new.self c.entries-part-items.ensures c.into_iter-part-iterator.ensures.into_iter_gives c.loop-part.yielded_by c.in-None-part.ensures.steps in (
+      c.loop-part.invariant.0,
+      subst (PassedItems (λ m. written (g.D.Digest.of m)) c.args.reading c.args.proof) (sym (length_push c.readings.yielded c.in-Some.read)) (agreed_all (λ m. written (g.D.Digest.of m)) c.args.reading c.args.proof (length c.readings.yielded) c.in-Some.read here c.in_ok-made.made c.in_ok-made.ensures.1
+          (λ z. elim c.else-read-eq0.branch [ else-read-eq0-via-then-read-eq0+else-read-gt0 w ↦ omega arith | else-read-eq0-via-else-read-eq0 w ↦ absurd (w.if-read-eq0.false z) ])
+          (length c.loop-part.yielded) found c.loop-part.invariant.1 c.readings.invariant.1),
+    )
 
 pub returns-then-read-gt0 : goal.returns-then-read-gt0
 returns-then-read-gt0 g c =
-    value_at_0 (λ m. written (g.D.Digest.of m)) c.args.reading c.args.proof c.readings.i c.in-Some.read c.in-Some.ensures.answer c.if-read-eq0.true c.if-read-gt0.true c.readings.invariant.1
+    let here = item_came c.readings.read-iterator c.readings.yielded (Some c.in-Some.read) c.next.new.self c.items-read-items.ensures.all c.into_iter-read-iterator.ensures.into_iter_gives c.readings.yielded_by c.in-Some.ensures.steps in
+    subst (λ e. JudgesItems (λ m. written (g.D.Digest.of m)) c.args.reading c.args.proof (Err e)) (sym c.at.ensures)
+    (value_at_0 (λ m. written (g.D.Digest.of m)) c.args.reading c.args.proof (length c.readings.yielded) c.in-Some.read here c.if-read-eq0.true c.if-read-gt0.true c.readings.invariant.1)
 
 pub returns-in-Some-wrong_by : goal.returns-in-Some-wrong_by
 returns-in-Some-wrong_by g c =
-    wrong-item (λ m. written (g.D.Digest.of m)) c.args.reading c.args.proof c.readings.i c.in-Some.read c.in-Some.ensures.answer c.in_ok-made.made c.in_ok-made.ensures.1
-    (λ z. elim c.if-read-eq0.branch [ then-read-eq0+else-read-gt0 w ↦ omega arith | else-read-eq0 w ↦ absurd (w.if-read-eq0.false z) ])
-    c.loop-j.j c.in-Some-entry.part c.in-Some-entry.ensures c.loop-j.invariant.1 c.in-Some-wrong_by.cause c.in-Some-wrong_by.ensures c.readings.invariant.1
+    let here = item_came c.readings.read-iterator c.readings.yielded (Some c.in-Some.read) c.next.new.self c.items-read-items.ensures.all c.into_iter-read-iterator.ensures.into_iter_gives c.readings.yielded_by c.in-Some.ensures.steps in
+    let found = entry_came c.loop-part.yielded (Some c.in-Some-part.part) c.next-in-loop-part.new.self c.entries-part-items.ensures c.into_iter-part-iterator.ensures.into_iter_gives c.loop-part.yielded_by c.in-Some-part.ensures.steps in
+    subst (λ e. JudgesItems (λ m. written (g.D.Digest.of m)) c.args.reading c.args.proof (Err e)) (sym c.at-in-Some-wrong_by.ensures)
+    (wrong-item (λ m. written (g.D.Digest.of m)) c.args.reading c.args.proof (length c.readings.yielded) c.in-Some.read here c.in_ok-made.made c.in_ok-made.ensures.1
+    (λ z. elim c.else-read-eq0.branch [ else-read-eq0-via-then-read-eq0+else-read-gt0 w ↦ omega arith | else-read-eq0-via-else-read-eq0 w ↦ absurd (w.if-read-eq0.false z) ])
+    (length c.loop-part.yielded) c.in-Some-part.part found c.loop-part.invariant.1 c.in-Some-wrong_by.cause c.in-Some-wrong_by.ensures c.readings.invariant.1)
+
+pub returns-in-None : goal.returns-in-None
+returns-in-None g c =
+    let past = item_came c.readings.read-iterator c.readings.yielded None c.next.new.self c.items-read-items.ensures.all c.into_iter-read-iterator.ensures.into_iter_gives c.readings.yielded_by c.in-None.ensures.steps in
+    rw c.readings.invariant.0 (passed_judges (λ m. written (g.D.Digest.of m)) c.args.reading c.args.proof (length c.readings.yielded) (λ bs f b judged. item_past c.args.reading (length c.readings.yielded) bs judged.found (past bs judged.found)) c.readings.invariant.1)

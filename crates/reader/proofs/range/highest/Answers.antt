@@ -1,15 +1,20 @@
-use Rattle.reader.proofs.Spots.{all_counted, highest_all, highest-more, item_past}
+use Rattle.std.proofs.Common.{sym, ap, ◌∙◌, max, rules}
+use Rattle.std.specs.List.{reduce}
+use Rattle.std.specs.Option.{unwrap_or}
+use Rattle.std.proofs.lemmas.Iterator.{YieldsList-from_map}
+use Rattle.std.proofs.lemmas.Iterator.Adapters.{option_map_id}
+use Rattle.std.proofs.lemmas.Iterator.Consumers.{YieldsList-at, YieldsList-from_first, max_from_yields_List}
+use Rattle.reading.specs.Plans.{planned}
+use Rattle.reading.specs.Readings.{held, item_shown, item_views, items_left}
+use Rattle.reader.proofs.Spots.{View, highest-picked, versions_seen}
 use Rattle.reader.proofs.range.highest.Goals as goal
-
-pub returns-in_default : goal.returns-in_default
-returns-in_default c =
-    let q = c.args.reading in
-    highest_all q c.loop-i.i c.loop-i.high (λ bs found. item_past q c.loop-i.i bs found c.in_default.ensures.answer) c.loop-i.invariant
-
-pub loop-i-preserved : goal.loop-i-preserved
-loop-i-preserved c = highest-more c.args.reading c.loop-i.i c.in-Some.read c.in-Some.ensures.answer c.loop-i.high _ c.max-high.ensures c.loop-i.invariant
+use borrow.Author.Tests.{tests}
 
 pub returns : goal.returns
-returns c =
-    let q = c.args.reading in
-    highest_all q c.loop-i.i c.loop-i.high (all_counted q c.loop-i.i _ c.count-i-end.ensures c.loop-i-test.false) c.loop-i.invariant
+returns c = λ bs found.
+    c.unwrap_or.ensures
+    ∙ ap (λ r. unwrap_or r 0) (sym (option_map_id c.max.result)
+    ∙ max_from_yields_List c.map.result c.max.result c.max.ensures.ran
+    (YieldsList-from_map _ (λ (v : View). v.0.version) (YieldsList-at c.map.ensures.source (YieldsList-from_first item_shown items_left (item_views c.args.reading) (c.items.ensures.all found.each_item))) c.map.ensures.closure (λ x r q k. search (rules, tests)))
+    ∙ ap (reduce max) (versions_seen c.args.reading.frame.now (planned c.args.reading.plan).items))
+    ∙ highest-picked (held c.args.reading).items

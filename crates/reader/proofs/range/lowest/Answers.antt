@@ -1,22 +1,20 @@
-use Rattle.std.proofs.Common.{refl}
-use Rattle.reader.proofs.Spots.{all_counted, item_past, lowest_all, lowest-first, lowest-more}
+use Rattle.std.proofs.Common.{sym, ap, ◌∙◌, min, rules}
+use Rattle.std.specs.List.{reduce}
+use Rattle.std.specs.Option.{unwrap_or}
+use Rattle.std.proofs.lemmas.Iterator.{YieldsList-from_map}
+use Rattle.std.proofs.lemmas.Iterator.Adapters.{option_map_id}
+use Rattle.std.proofs.lemmas.Iterator.Consumers.{YieldsList-at, YieldsList-from_first, min_from_yields_List}
+use Rattle.reading.specs.Plans.{planned}
+use Rattle.reading.specs.Readings.{held, item_shown, item_views, items_left}
+use Rattle.reader.proofs.Spots.{View, lowest-picked, versions_seen}
 use Rattle.reader.proofs.range.lowest.Goals as goal
-
-pub returns-in_default : goal.returns-in_default
-returns-in_default c = let q = c.args.reading in lowest_all q 0 0 (λ bs found. item_past q 0 bs found c.in_default.ensures.answer) (λ bs found. refl)
-
-pub loop-i-init : goal.loop-i-init
-loop-i-init c = lowest-first c.args.reading 0 c.in-Some.first c.in-Some.ensures.answer refl
-
-pub returns-in_default-item : goal.returns-in_default-item
-returns-in_default-item c =
-    let q = c.args.reading in
-    lowest_all q c.loop-i.i c.loop-i.low (λ bs found. item_past q c.loop-i.i bs found c.in_default-item.ensures.answer) c.loop-i.invariant
-
-pub loop-i-preserved : goal.loop-i-preserved
-loop-i-preserved c = lowest-more c.args.reading c.loop-i.i c.in-Some-item.read c.in-Some-item.ensures.answer c.loop-i.low _ c.loop-i.auto.i c.min-low.ensures c.loop-i.invariant
+use borrow.Author.Tests.{tests}
 
 pub returns : goal.returns
-returns c =
-    let q = c.args.reading in
-    lowest_all q c.loop-i.i c.loop-i.low (all_counted q c.loop-i.i _ c.count-i-end.ensures c.loop-i-test.false) c.loop-i.invariant
+returns c = λ bs found.
+    c.unwrap_or.ensures
+    ∙ ap (λ r. unwrap_or r 0) (sym (option_map_id c.min.result)
+    ∙ min_from_yields_List c.map.result c.min.result c.min.ensures.ran
+    (YieldsList-from_map _ (λ (v : View). v.0.version) (YieldsList-at c.map.ensures.source (YieldsList-from_first item_shown items_left (item_views c.args.reading) (c.items.ensures.all found.each_item))) c.map.ensures.closure (λ x r q k. search (rules, tests)))
+    ∙ ap (reduce min) (versions_seen c.args.reading.frame.now (planned c.args.reading.plan).items))
+    ∙ lowest-picked (held c.args.reading).items

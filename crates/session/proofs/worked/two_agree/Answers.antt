@@ -1,17 +1,13 @@
-use Rattle.std.proofs.Common.{[], ◌∷◌, ◌∙◌, subst}
-use Rattle.session.specs.Answers.{reply}
-use Rattle.session.specs.Standing.{Represents}
-use Rattle.session.proofs.Working.{three_decides, took_first}
+use Rattle.std.proofs.Common.{[], ◌∙◌, ap}
+use Rattle.session.specs.Answers.{accepted, answer, reply}
+use Rattle.session.proofs.Working.{first_waits, three_decides}
 use Rattle.session.proofs.worked.two_agree.Goals as goal
 
-pub returns : goal.returns
-returns c =
+pub returns-clause-runs : goal.returns-clause-runs
+returns-clause-runs c ok =
     let v = c.args.verdict in
     let k = c.args.version in
-    let new = subst (λ n. Represents c.new-session.result n []) c.in_ok-new.ensures.2 c.new-session.ensures in
-    record {
-      runs = λ ok.
-          let first = took_first v k ok c.reply-first.new.self c.reply-first.result (c.reply-first.ensures.answers 1 [] new) in
-          (c.reply.ensures.answers 1 (reply 0 v k ∷ []) first).0 ∙ three_decides v k ok;
-      rule = three_decides v k;
-    }
+    c.second.ensures ∙ ap (λ a. answer 1 (accepted [] (reply 0 v k) a) (reply 3 v k)) (first_waits v k ok) ∙ three_decides v k ok
+
+pub returns-clause-rule : goal.returns-clause-rule
+returns-clause-rule c = three_decides c.args.verdict c.args.version

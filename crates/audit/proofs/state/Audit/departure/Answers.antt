@@ -1,5 +1,5 @@
 use Rattle.std.proofs.Common.{ℕ, ◌<◌, ◌≤◌, List, arith}
-use Rattle.digest.specs.Meaning.{written}
+use Rattle.digest.specs.Meaning.{bytes_by}
 use Rattle.promises.proofs.Comparing.{sized}
 use Rattle.audit.specs.Reports.{WrongMark}
 use Rattle.audit.proofs.Judging.{parts}
@@ -8,7 +8,7 @@ use Rattle.audit.proofs.state.Audit.departure.Goals as goal
 
 pub returns-then-at-ge-BOARDS : goal.returns-then-at-ge-BOARDS
 returns-then-at-ge-BOARDS g c =
-    let dig : List ℕ → List ℕ = λ m. written (g.D.Digest.of m) in
+    let dig : List ℕ → List ℕ = bytes_by g.D.Digest.of in
     let high : 16 ≤ c.args.board = omega arith in
     record {
       reports = λ tag f own h reports st k at. no_stranger (WrongMark dig) reports c.args.board k st.members high at;
@@ -17,7 +17,7 @@ returns-then-at-ge-BOARDS g c =
 
 pub returns : goal.returns
 returns g c =
-    let dig : List ℕ → List ℕ = λ m. written (g.D.Digest.of m) in
+    let dig : List ℕ → List ℕ = bytes_by g.D.Digest.of in
     let b = c.args.board in
     let below : b < 16 = omega arith in
     record {

@@ -1,6 +1,6 @@
 use Rattle.std.proofs.Common.{ℕ, List, [], sym, refl, subst}
 use Rattle.std.proofs.lemmas.List.{get_or-replicate}
-use Rattle.digest.specs.Meaning.{written}
+use Rattle.digest.specs.Meaning.{bytes_by}
 use Rattle.audit.specs.declared.track.Track.{Track}
 use Rattle.audit.specs.Auditing.{no_track}
 use Rattle.audit.specs.Tracking.{Tracks}
@@ -8,7 +8,7 @@ use Rattle.audit.proofs.state.Audit.new.Goals as goal
 
 pub returns : goal.returns
 returns g c =
-    let dig : List ℕ → List ℕ = λ m. written (g.D.Digest.of m) in
+    let dig : List ℕ → List ℕ = bytes_by g.D.Digest.of in
     record {
       replay = c.new.ensures;
       count = refl;

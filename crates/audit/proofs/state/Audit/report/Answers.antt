@@ -1,5 +1,5 @@
 use Rattle.std.proofs.Common.{◌≡◌, ℕ, ◌+◌, ◌<◌, List, length, sym, refl, ap, subst, arith, rules}
-use Rattle.digest.specs.Meaning.{written}
+use Rattle.digest.specs.Meaning.{bytes_by}
 use Rattle.promises.proofs.Comparing.{sized}
 use Rattle.audit.specs.declared.answers.Judgement.{Judgement}
 use Rattle.audit.specs.Auditing.{report_of}
@@ -10,7 +10,7 @@ use Rattle.audit.proofs.state.Audit.report.Goals as goal
 
 pub returns : goal.returns
 returns g c =
-    let dig : List ℕ → List ℕ = λ m. written (g.D.Digest.of m) in
+    let dig : List ℕ → List ℕ = bytes_by g.D.Digest.of in
     let a = c.args.self.now in
     let b = c.args.board in
     let count = c.args.mark.count in
@@ -22,12 +22,12 @@ returns g c =
           let last = report_of h b count chain in
           let tells = rightly g.S.Store.holds dig g.L.Seal.tag tag f own a h reports st b count chain c.agrees-right.result c.agrees-right.ensures in
           let P : Judgement → Type 0 = λ j. Judges dig j last in
-          let judged = subst P (sym c.of.ensures) (judges dig c.agrees-right.result last tells) in
+          let judged = subst P (sym c.from.ensures) (judges dig c.agrees-right.result last tells) in
           let numbered : a.reports + 1 ≡ length reports + 1 = ap (λ n. n + 1) st.count in (
             below,
             omega (arith, st.count),
             judged,
-            tells_all dig (sized _ g.met.D.Digest.four) c.of.result last judged,
+            tells_all dig (sized _ g.met.D.Digest.four) c.from.result last judged,
             represents-more g.S.Store.holds dig g.L.Seal.tag tag f own a h reports st b count chain (a.reports + 1) c.noted.result refl below there
                 (c.noted.ensures dig b reports last (st.tracks b below) numbered refl tells),
           );

@@ -1,8 +1,14 @@
-use Rattle.std.proofs.Common.{◌≤◌, arith}
+use Rattle.std.proofs.Common.{◌≡◌, Some, None, rules, sym, subst}
+use Rattle.audit.specs.Reports.{Departs}
 use Rattle.audit.proofs.track.Track.departure.Goals as goal
 
-pub returns-then-self-eq0 : goal.returns-then-self-eq0
-returns-then-self-eq0 c digest b reports tr = tr.never (omega arith)
+pub returns-in_err-wrong : goal.returns-in_err-wrong
+returns-in_err-wrong c digest b reports tracks =
+    let none : c.args.self.wrong ≡ None = search rules in
+    let never : c.from_residual.result ≡ None = search rules in
+    subst (Departs digest reports b) (sym never) (tracks.never none)
 
 pub returns : goal.returns
-returns c digest b reports tr = let some : 1 ≤ c.args.self.wrong = omega arith in (tr.first some, tr.before some)
+returns c digest b reports tracks =
+    let some : c.args.self.wrong ≡ Some c.in_ok-wrong.wrong = search rules in
+    (tracks.first c.in_ok-wrong.wrong some, tracks.before c.in_ok-wrong.wrong some)

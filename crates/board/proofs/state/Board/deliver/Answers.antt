@@ -1,8 +1,8 @@
 use Rattle.std.proofs.Common.{ℕ, ◌+◌, ◌<◌, ◌≤◌, List, Err, sym, refl, ap, ◌∙◌, arith}
 use Rattle.std.proofs.lemmas.Result.{err_from_is_err_and}
 use Rattle.std.proofs.lemmas.Bool.{both_ways}
-use Rattle.fault.specs.declared.Verdict.TheVariants.{Abort, Commit}
-use Rattle.digest.specs.Meaning.{written}
+use Rattle.decision.specs.declared.Decision.TheVariants.{Abort, Commit}
+use Rattle.digest.specs.Meaning.{bytes_by}
 use Rattle.request.specs.Requests.{held}
 use Rattle.history.specs.Clients.{used}
 use Rattle.history.specs.Events.{effects}
@@ -23,7 +23,7 @@ commit-version-requires g c =
 
 pub returns-in_err-request : goal.returns-in_err-request
 returns-in_err-request g c =
-    let dig : List ℕ → List ℕ = λ m. written (g.D.Digest.of m) in
+    let dig : List ℕ → List ℕ = bytes_by g.D.Digest.of in
     let p = err_from_is_err_and c.from_residual.result c.from_residual.ensures.1 in
     let is = p.1 ∙ ap Err p.2 in
     record {
@@ -36,7 +36,7 @@ returns-in_err-request g c =
 
 pub returns-in_err-check : goal.returns-in_err-check
 returns-in_err-check g c =
-    let dig : List ℕ → List ℕ = λ m. written (g.D.Digest.of m) in
+    let dig : List ℕ → List ℕ = bytes_by g.D.Digest.of in
     let p = err_from_is_err_and c.from_residual-in_err-check.result c.from_residual-in_err-check.ensures.1 in
     let is = p.1 ∙ ap Err p.2 in
     let r = c.in_ok-request.request in
@@ -68,36 +68,36 @@ returns-in_default g c =
 
 pub returns-then-not-pass : goal.returns-then-not-pass
 returns-then-not-pass g c =
-    let dig : List ℕ → List ℕ = λ m. written (g.D.Digest.of m) in
+    let dig : List ℕ → List ℕ = bytes_by g.D.Digest.of in
     let r = c.in_ok-request.request in
     let a = c.in_ok-request.ensures in
     record {
       history = λ tag f own h st.
-          let up = c.in-Some.ensures.used (λ k. used k (effects h)) st.clients in (
+          let up = c.in-Ok.ensures.used (λ k. used k (effects h)) st.clients in (
             delivers g.S.Store.holds dig g.L.Seal.tag tag f own c.args.self.now h st c.args.frame.now (held r) (sym a.answer) (Unit {0})
-                (record { verdict = Abort; version = 0; opened = c.in-Some.opened }) c.in_ok-check.field-0 r.frame.now a.found.frame
+                (record { decision = Abort; opened = c.in-Ok.opened }) c.in_ok-check.field-0 r.frame.now a.found.frame
                 (c.in_ok-check.ensures.refuses (λ k. used k (effects h)) st.clients)
-                ((λ all. both_ways c.judge-pass.result c.if-not-pass.true (c.judge-pass.ensures.1 (all_agree g.S.Store.holds dig g.L.Seal.tag tag f own c.args.self.now h st c.args.frame.now (held r) (sym a.answer) (items-read c.args.frame.now r a.promised) all)), refl), up.2),
-            aborts g.S.Store.holds dig g.L.Seal.tag tag f own c.args.self.now h st c.args.frame.now (held r) (sym a.answer) _ 0 c.in-Some.opened refl refl refl refl refl refl up.3,
+                (λ all. both_ways c.judge-pass.result c.if-not-pass.true (c.judge-pass.ensures.1 (all_agree g.S.Store.holds dig g.L.Seal.tag tag f own c.args.self.now h st c.args.frame.now (held r) (sym a.answer) (items-read c.args.frame.now r a.promised) all)), up.2),
+            aborts g.S.Store.holds dig g.L.Seal.tag tag f own c.args.self.now h st c.args.frame.now (held r) (sym a.answer) _ c.in-Ok.opened refl refl refl refl refl refl up.3,
           );
-      sets = λ h sets. sets_verdict h c.args.frame.now (held r) Abort 0 c.in-Some.opened (sym a.answer) (write-set c.args.frame.now r a.promised) sets;
+      sets = λ h sets. sets_verdict h c.args.frame.now (held r) Abort c.in-Ok.opened (sym a.answer) (write-set c.args.frame.now r a.promised) sets;
       refused = tt;
     }
 
 pub returns : goal.returns
 returns g c =
-    let dig : List ℕ → List ℕ = λ m. written (g.D.Digest.of m) in
+    let dig : List ℕ → List ℕ = bytes_by g.D.Digest.of in
     let r = c.in_ok-request.request in
     let a = c.in_ok-request.ensures in
     record {
       history = λ tag f own h st.
-          let up = c.in-Some.ensures.used (λ k. used k (effects h)) st.clients in (
+          let up = c.in-Ok.ensures.used (λ k. used k (effects h)) st.clients in (
             delivers g.S.Store.holds dig g.L.Seal.tag tag f own c.args.self.now h st c.args.frame.now (held r) (sym a.answer) (Unit {0})
-                (record { verdict = Commit; version = c.commit-version.result; opened = c.in-Some.opened }) c.in_ok-check.field-0 r.frame.now a.found.frame
+                (record { decision = Commit c.commit-version.result; opened = c.in-Ok.opened }) c.in_ok-check.field-0 r.frame.now a.found.frame
                 (c.in_ok-check.ensures.refuses (λ k. used k (effects h)) st.clients)
                 ((all_pass g.S.Store.holds dig g.L.Seal.tag tag f own c.args.self.now h st c.args.frame.now (held r) (sym a.answer) (c.judge-pass.ensures.0 c.if-not-pass.false), c.commit-version.ensures.version ∙ ap (λ n. n + 1) st.count), up.2),
-            commit-made g.S.Store.holds dig g.L.Seal.tag tag f own c.args.self.now h st c.args.frame.now (held r) (sym a.answer) _ _ c.commit-version.result c.in-Some.opened c.commit-version.ensures.commits refl refl refl refl refl refl up.3,
+            commit-made g.S.Store.holds dig g.L.Seal.tag tag f own c.args.self.now h st c.args.frame.now (held r) (sym a.answer) _ _ c.commit-version.result c.in-Ok.opened c.commit-version.ensures.commits refl refl refl refl refl refl up.3,
           );
-      sets = λ h sets. sets_verdict h c.args.frame.now (held r) Commit c.commit-version.result c.in-Some.opened (sym a.answer) (write-set c.args.frame.now r a.promised) sets;
+      sets = λ h sets. sets_verdict h c.args.frame.now (held r) (Commit c.commit-version.result) c.in-Ok.opened (sym a.answer) (write-set c.args.frame.now r a.promised) sets;
       refused = tt;
     }

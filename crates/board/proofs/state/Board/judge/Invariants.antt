@@ -1,9 +1,8 @@
-use Rattle.std.proofs.Common.{take}
-use Rattle.std.specs.List.{AllByRecursion as All}
-use Rattle.digest.specs.Meaning.{written}
+use Rattle.digest.specs.Meaning.{bytes_by}
 use Rattle.request.specs.Requests.{held}
 use Rattle.board.specs.Delivering.{Agrees}
+use Rattle.board.proofs.DeliverLoops.{Scans, reads_to_come}
 use Rattle.board.proofs.state.Board.judge.Given as goal
 
-abbrev pub invariant-loop-i : goal.invariant-loop-i
-invariant-loop-i g l = All (Agrees (λ m. written (g.D.Digest.of m)) (g.S.Store.holds l.self.store)) (take l.i (held l.request).reads)
+abbrev pub invariant-loop-read : goal.invariant-loop-read
+invariant-loop-read g l = Scans (Agrees (bytes_by g.D.Digest.of) (g.S.Store.holds l.self.store)) (held l.fn.request).reads (reads_to_come l.read-iterator)

@@ -1,5 +1,5 @@
 use Rattle.std.proofs.Common.{refl}
-use Rattle.digest.specs.Meaning.{written}
+use Rattle.digest.specs.Meaning.{bytes_by}
 use Rattle.history.specs.Events.{marked}
 use Rattle.board.proofs.Standing.{stands_quiet}
 use Rattle.board.proofs.state.Board.mark.Goals as goal
@@ -9,6 +9,6 @@ returns g c = record {
   now = (refl, refl);
   history = λ tag f own h st. (
     (st.count, st.chain),
-    stands_quiet g.S.Store.holds (λ m. written (g.D.Digest.of m)) g.L.Seal.tag tag f own c.args.self.now h (marked c.args.self.now.count c.args.self.now.chain) refl st,
+    stands_quiet g.S.Store.holds (bytes_by g.D.Digest.of) g.L.Seal.tag tag f own c.args.self.now h (marked c.args.self.now.count c.args.self.now.chain) refl st,
   );
 }

@@ -1,4 +1,4 @@
-use Rattle.digest.specs.Meaning.{written}
+use Rattle.digest.specs.Meaning.{bytes_by}
 use Rattle.board.proofs.ProofHistory.{proof_told}
 use Rattle.board.proofs.state.Board.proof.Goals as goal
 
@@ -9,6 +9,6 @@ returns g c =
       answer = s.answer;
       bytes = s.bytes;
       back = s.back;
-      history = λ tag f own h st sets. proof_told g.S.Store.holds (λ m. written (g.D.Digest.of m)) g.L.Seal.tag tag f own c.args.self.now h c.args.low c.args.high st sets
+      history = λ tag f own h st sets. proof_told g.S.Store.holds (bytes_by g.D.Digest.of) g.L.Seal.tag tag f own c.args.self.now h c.args.low c.args.high st sets
           c.args.out.now c.put_proof.new.out c.put_proof.result s.answer s.bytes s.back;
     }

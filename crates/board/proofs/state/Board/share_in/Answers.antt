@@ -1,4 +1,4 @@
-use Rattle.digest.specs.Meaning.{written}
+use Rattle.digest.specs.Meaning.{bytes_by}
 use Rattle.board.proofs.ShareInHistory.{share_in_told}
 use Rattle.board.proofs.state.Board.share_in.Goals as goal
 
@@ -9,6 +9,6 @@ returns g c =
       answer = s.answer;
       refused = s.refused;
       rest = s.rest;
-      history = λ tag f own h st. share_in_told g.S.Store.holds (λ m. written (g.D.Digest.of m)) g.L.Seal.tag tag f own c.args.self.now c.read_and_take.new.self h c.args.frame.now st
+      history = λ tag f own h st. share_in_told g.S.Store.holds (bytes_by g.D.Digest.of) g.L.Seal.tag tag f own c.args.self.now c.read_and_take.new.self h c.args.frame.now st
           c.read_and_take.result s.answer s.reads s.refused s.rest;
     }

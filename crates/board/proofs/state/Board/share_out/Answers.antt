@@ -1,5 +1,5 @@
 use Rattle.std.proofs.Common.{◌≡◌, ℕ, List, length, sym, refl, ap, ◌∙◌}
-use Rattle.digest.specs.Meaning.{written as words-written}
+use Rattle.digest.specs.Meaning.{bytes_by}
 use Rattle.window.specs.Windows.{entry_in}
 use Rattle.history.specs.Answers.{own_share, share_bytes}
 use Rattle.history.specs.Commits.{commits}
@@ -20,7 +20,7 @@ returns g c = record {
       let old = c.args.out.now in
       let r = c.put_share.result in
       let cs = commits (effects h) in
-      let digest : List ℕ → List ℕ = λ m. words-written (g.D.Digest.of m) in
+      let digest : List ℕ → List ℕ = bytes_by g.D.Digest.of in
       let kept : r ≡ share_out_now (length cs) v (length old) = c.put_share.ensures.answer ∙ ap (λ k. share_out_now k v (length old)) st.count in (
         (
           share_out_answered (length cs) v (length old) (length (share_bytes digest tag f own (effects h) v)) r

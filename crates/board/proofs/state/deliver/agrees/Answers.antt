@@ -1,7 +1,7 @@
 use Rattle.std.proofs.Common.{ℕ, cond, List, [], sym, ap, ◌∙◌}
 use Rattle.std.proofs.lemmas.Slice.Eq.{slice_eq-Decides}
 use Rattle.std.proofs.lemmas.Bool.{eq-eqb, ne_eqb}
-use Rattle.digest.specs.Meaning.{written}
+use Rattle.digest.specs.Meaning.{bytes_by}
 use Rattle.store.specs.Slot.{slot}
 use Rattle.board.specs.Delivering.{read_said}
 use Rattle.board.proofs.DeliverLoops.{agrees_by}
@@ -10,7 +10,7 @@ use Rattle.std.proofs.lemmas.Bool.Decides.{Decides-eqb}
 
 pub returns-then-row-eq0 : goal.returns-then-row-eq0
 returns-then-row-eq0 g c =
-    let dig : List ℕ → List ℕ = λ m. written (g.D.Digest.of m) in
+    let dig : List ℕ → List ℕ = bytes_by g.D.Digest.of in
     let row = c.look_up-row.result in
     agrees_by dig (g.S.Store.holds c.args.store.now) (read_said c.args.read) (slot row) c.in-Some.item.number c.eq.result c.as_slice.result.now
     c.in-Some.item.below c.in-Some.ensures c.look_up-row.ensures c.if-read-row.false
@@ -19,7 +19,7 @@ returns-then-row-eq0 g c =
 
 pub returns : goal.returns
 returns g c =
-    let dig : List ℕ → List ℕ = λ m. written (g.D.Digest.of m) in
+    let dig : List ℕ → List ℕ = bytes_by g.D.Digest.of in
     let row = c.look_up-row.result in
     agrees_by dig (g.S.Store.holds c.args.store.now) (read_said c.args.read) (slot row) c.in-Some.item.number c.eq-2.result c.as_slice-2.result.now
     c.in-Some.item.below c.in-Some.ensures c.look_up-row.ensures c.if-read-row.false

@@ -1,59 +1,58 @@
-use Rattle.std.proofs.Common.{ℕ, ◌<◌, ◌≤◌, List, length, sym, ap, ◌∙◌, arith}
-use Rattle.digest.specs.Meaning.{written}
+use Rattle.std.proofs.Common.{ℕ, ◌<◌, ◌≤◌, List, [], ◌∷◌, ◌++◌, map, length, sym, ap, ◌∙◌, subst, arith}
+use Rattle.digest.specs.Meaning.{bytes_by}
 use Rattle.request.specs.Bodies.{WriteBody, WriteIn}
-use Rattle.request.specs.Marks.{write_body, write_place}
-use Rattle.request.specs.Plans.{planned}
 use Rattle.request.specs.Requests.{held}
-use Rattle.history.specs.Commits.{Left, kept, leave}
-use Rattle.history.specs.Commits as commits
+use Rattle.history.specs.Commits.{kept}
 use Rattle.history.proofs.ReadLaws.{kept-write}
-use Rattle.history.proofs.Writes.{install_all, install_more, install_none}
-use Rattle.board.specs.Delivering.{row_of}
-use Rattle.board.proofs.DeliverLoops.{every_at, few-counted, found_none, found_some, take_past}
+use Rattle.history.proofs.Writes.{install_more, install_none}
+use Rattle.board.specs.Delivering.{Installed, row_of}
+use Rattle.board.proofs.DeliverLoops.{all_writes, next_holds, taken_all, taken_more, writes_to_come}
 use Rattle.board.proofs.state.deliver.install_all.Goals as goal
-use Rattle.board.proofs.state.deliver.install_all.Goals.{in-Some, in_default}
+
+pub loop-write-init : goal.loop-write-init
+loop-write-init g c = (
+  [],
+  (
+    (sym (all_writes c.args.request c.into_iter-write-iterator.result c.writes-write-items.result c.requires.0.each_write c.into_iter-write-iterator.ensures.into_iter_gives c.writes-write-items.ensures.all)),
+    λ x l e. e ∙ install_none (kept (bytes_by g.D.Digest.of)) c.args.version x l,
+  ),
+)
 
 pub digested-made-requires : goal.digested-made-requires
 digested-made-requires g c =
-    let q = c.args.request in
-    let i = c.loop-i.i in
     let r = c.in-Some.write in
     let w : WriteBody = record { item = r.item; value = r.value.now } in
-    let at = found_some (write_body q.frame.now) write_place (planned q.plan).writes i w r.place (c.in-Some.ensures.answer ∙ c.requires.0.each_write i) in
-    let fits : length w.value ≤ 32 = (every_at WriteIn (held q).writes i w c.requires.0.writes at.0 at.1).value in
+    let v = c.loop-write.invariant in
+    let next = ap (map (λ (v : WriteBody × ℕ). v.0)) c.in-Some.ensures.steps in
+    let fits : length w.value ≤ 32 = (next_holds WriteIn (held c.args.request).writes v.0 (writes_to_come c.loop-write.write-iterator) (writes_to_come c.next.new.self) w c.requires.0.writes v.1.0 next).value in
     omega arith
 
-pub loop-i-init : goal.loop-i-init
-loop-i-init g c = λ x l e. e ∙ install_none (kept (λ m. written (g.D.Digest.of m))) c.args.version (held c.args.request).writes x l
-
-pub loop-i-preserved : goal.loop-i-preserved
-loop-i-preserved g c =
-    let dig : List ℕ → List ℕ = λ m. written (g.D.Digest.of m) in
-    let q = c.args.request in
-    let i = c.loop-i.i in
+pub loop-write-preserved : goal.loop-write-preserved
+loop-write-preserved g c =
+    let dig : List ℕ → List ℕ = bytes_by g.D.Digest.of in
     let k = c.args.version in
-    elim c.match-write.branch [
-      | in-Some w ↦
-          let r = w.in-Some.write in
-          let one : WriteBody = record { item = r.item; value = r.value.now } in
-          let at = found_some (write_body q.frame.now) write_place (planned q.plan).writes i one r.place (w.in-Some.ensures.answer ∙ c.requires.0.each_write i) in
-          let fits = every_at WriteIn (held q).writes i one c.requires.0.writes at.0 at.1 in
-          let item : one.item ≤ 63 = fits.item in
-          let below : one.item < 64 = omega arith in
-          λ x l e.
-          ap (λ s. g.S.Store.holds s x) w.store-is
-          ∙ install_more (kept dig) k (held q).writes x l i one (g.S.Store.holds c.loop-i.store x) (g.S.Store.holds w.install_one.new.store x) at.0 at.1 (c.loop-i.invariant x l e)
-          (λ same. ap (g.S.Store.holds w.install_one.new.store) same ∙ w.install_one.ensures.sets below fits.value ∙ ap (row_of k one.value) w.digested-made.ensures ∙ sym (kept-write dig k one.value c.requires.1))
-          (λ ne. w.install_one.ensures.others x ne)
-      | in_default w ↦
-          let past = take_past (held q).writes i (found_none (write_body q.frame.now) write_place (planned q.plan).writes i (w.in_default.ensures.answer ∙ c.requires.0.each_write i)) in
-          λ x l e.
-          ap (λ s. g.S.Store.holds s x) w.store-is ∙ c.loop-i.invariant x l e ∙ ap (λ ws. kept dig (leave k (commits.written ws x) l)) (sym past)
-    ]
+    let r = c.in-Some.write in
+    let w : WriteBody = record { item = r.item; value = r.value.now } in
+    let v = c.loop-write.invariant in
+    let left = writes_to_come c.loop-write.write-iterator in
+    let rest = writes_to_come c.next.new.self in
+    let all = (held c.args.request).writes in
+    let next = ap (map (λ (v : WriteBody × ℕ). v.0)) c.in-Some.ensures.steps in
+    let fits = next_holds WriteIn all v.0 left rest w c.requires.0.writes v.1.0 next in
+    let item : w.item ≤ 63 = fits.item in
+    let below : w.item < 64 = omega arith in (
+      v.0 ++ w ∷ [],
+      (
+        taken_more all v.0 left rest w v.1.0 next,
+        λ x l e.
+            install_more (kept dig) k x l v.0 w (g.S.Store.holds c.loop-write.store x) (g.S.Store.holds c.install_one.new.store x) (v.1.1 x l e)
+            (λ same. ap (g.S.Store.holds c.install_one.new.store) same ∙ c.install_one.ensures.sets below fits.value ∙ ap (row_of k w.value) c.digested-made.ensures ∙ sym (kept-write dig k w.value c.requires.1))
+            (λ ne. c.install_one.ensures.others x ne),
+      ),
+    )
 
 pub returns : goal.returns
 returns g c =
-    let q = c.args.request in
-    let few = few-counted (write_body q.frame.now) q.plan.top.writes c.loop-i.i q.plan.writes c.loop-i-test.false in
-    λ x l e.
-    install_all (kept (λ m. written (g.D.Digest.of m))) c.args.version (held q).writes x l c.loop-i.i (g.S.Store.holds c.loop-i.store x) few (c.loop-i.invariant x l e)
+    let v = c.loop-write.invariant in
+    subst (λ ws. Installed (bytes_by g.D.Digest.of) c.args.version ws (g.S.Store.holds c.args.store.now) (g.S.Store.holds c.loop-write.store))
+    (taken_all (held c.args.request).writes v.0 (writes_to_come c.loop-write.write-iterator) v.1.0 (ap (map (λ (v : WriteBody × ℕ). v.0)) c.in-None.ensures.steps.0)) v.1.1

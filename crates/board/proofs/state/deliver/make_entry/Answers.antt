@@ -1,51 +1,47 @@
-use Rattle.std.proofs.Common.{◌≡◌, ℕ, ◌≤◌, List, length, sym, ap, ◌∙◌, arith}
-use Rattle.std.proofs.lemmas.List.{take_all}
-use Rattle.digest.specs.Meaning.{written}
-use Rattle.entry.specs.Bodies.{entry_body, item_body}
+use Rattle.std.proofs.Common.{◌≡◌, ℕ, ◌≤◌, List, [], ◌∷◌, ◌++◌, map, length, rules, sym, ap, ◌∙◌, arith}
+use Rattle.digest.specs.Meaning.{bytes_by}
+use Rattle.entry.specs.Bodies.{item_body}
 use Rattle.request.specs.Bodies.{WriteBody, WriteIn}
-use Rattle.request.specs.Marks.{write_body, write_place}
-use Rattle.request.specs.Plans.{planned}
 use Rattle.request.specs.Requests.{held}
 use Rattle.history.specs.Entries.{entry_of, recorded}
-use Rattle.board.proofs.DeliverLoops.{entry_more, every_at, few-counted, found_none, found_some, take_past}
+use Rattle.board.proofs.DeliverLoops.{all_writes, entry_more, next_holds, taken_all, taken_more, writes_to_come}
 use Rattle.board.proofs.state.deliver.make_entry.Goals as goal
-use Rattle.board.proofs.state.deliver.make_entry.Goals.{in-Some-write, in_default}
+
+pub loop-write-init : goal.loop-write-init
+loop-write-init g c = ([], ((sym (all_writes c.args.request c.into_iter-write-iterator.result c.writes-write-items.result c.requires.0.each_write c.into_iter-write-iterator.ensures.into_iter_gives c.writes-write-items.ensures.all)), search rules))
 
 pub digested-made-requires : goal.digested-made-requires
 digested-made-requires g c =
-    let q = c.args.request in
-    let i = c.loop-i.i in
-    let r = c.in-Some-write.write in
+    let r = c.in-Some.write in
     let w : WriteBody = record { item = r.item; value = r.value.now } in
-    let at = found_some (write_body q.frame.now) write_place (planned q.plan).writes i w r.place (c.in-Some-write.ensures.answer ∙ c.requires.0.each_write i) in
-    let fits : length w.value ≤ 32 = (every_at WriteIn (held q).writes i w c.requires.0.writes at.0 at.1).value in
+    let v = c.loop-write.invariant in
+    let next = ap (map (λ (v : WriteBody × ℕ). v.0)) c.in-Some.ensures.steps in
+    let fits : length w.value ≤ 32 = (next_holds WriteIn (held c.args.request).writes v.0 (writes_to_come c.loop-write.write-iterator) (writes_to_come c.next.new.self) w c.requires.0.writes v.1.0 next).value in
     omega arith
 
-pub loop-i-preserved : goal.loop-i-preserved
-loop-i-preserved g c =
-    let dig : List ℕ → List ℕ = λ m. written (g.D.Digest.of m) in
-    let q = c.args.request in
-    let i = c.loop-i.i in
-    elim c.match-write.branch [
-      | in-Some-write w ↦
-          let r = w.in-Some-write.write in
-          let one : WriteBody = record { item = r.item; value = r.value.now } in
-          let at = found_some (write_body q.frame.now) write_place (planned q.plan).writes i one r.place (w.in-Some-write.ensures.answer ∙ c.requires.0.each_write i) in
-          let x = w.new-in-Some-write.result in
-          let item : x.item ≡ one.item = w.new-in-Some-write.ensures.0 in
-          let sum : x.digest ≡ dig one.value = w.new-in-Some-write.ensures.1 ∙ w.digested-made.ensures in
-          let same : item_body x ≡ recorded dig one = λ t. record { item = item t; digest = sum t } in
-          ap entry_body w.built-is
-          ∙ entry_more dig c.args.version (held q).writes i one c.loop-i.built w.push.new.self x w.push.result at.0 at.1 c.requires.0.few c.loop-i.invariant
-          w.push.ensures.0 w.push.ensures.1 same
-      | in_default w ↦
-          ap entry_body w.built-is ∙ c.loop-i.invariant
-          ∙ ap (entry_of dig c.args.version) (sym (take_past (held q).writes i (found_none (write_body q.frame.now) write_place (planned q.plan).writes i (w.in_default.ensures.answer ∙ c.requires.0.each_write i))))
-    ]
+pub loop-write-preserved : goal.loop-write-preserved
+loop-write-preserved g c =
+    let dig : List ℕ → List ℕ = bytes_by g.D.Digest.of in
+    let r = c.in-Some.write in
+    let w : WriteBody = record { item = r.item; value = r.value.now } in
+    let v = c.loop-write.invariant in
+    let left = writes_to_come c.loop-write.write-iterator in
+    let rest = writes_to_come c.next.new.self in
+    let all = (held c.args.request).writes in
+    let next = ap (map (λ (v : WriteBody × ℕ). v.0)) c.in-Some.ensures.steps in
+    let x = c.new-in-loop-write.result in
+    let item : x.item ≡ w.item = c.new-in-loop-write.ensures.0 in
+    let sum : x.digest ≡ dig w.value = c.new-in-loop-write.ensures.1 ∙ c.digested-made.ensures in
+    let same : item_body x ≡ recorded dig w = λ t. record { item = item t; digest = sum t } in (
+      v.0 ++ w ∷ [],
+      (
+        taken_more all v.0 left rest w v.1.0 next,
+        entry_more dig c.args.version all v.0 left rest w v.1.0 next c.requires.0.few c.loop-write.built c.push.new.self x c.push.result v.1.1 c.push.ensures.0 c.push.ensures.1 same,
+      ),
+    )
 
 pub returns : goal.returns
 returns g c =
-    let q = c.args.request in
-    c.loop-i.invariant
-    ∙ ap (entry_of (λ m. written (g.D.Digest.of m)) c.args.version)
-    (take_all c.loop-i.i (held q).writes (few-counted (write_body q.frame.now) q.plan.top.writes c.loop-i.i q.plan.writes c.loop-i-test.false))
+    let v = c.loop-write.invariant in
+    v.1.1 ∙ ap (entry_of (bytes_by g.D.Digest.of) c.args.version)
+    (taken_all (held c.args.request).writes v.0 (writes_to_come c.loop-write.write-iterator) v.1.0 (ap (map (λ (v : WriteBody × ℕ). v.0)) c.in-None.ensures.steps.0))

@@ -48,7 +48,7 @@ returns-then-not-covers g c =
     let seen : Seen f (Ok proof) (proof_of 2 f bs) = subst (λ (n : ℕ). Seen n (Ok proof) (proof_of 2 n bs)) c.faults.ensures c.in_ok-proven.ensures.seen in
     let bytes : Bytes bs = λ i. (c.type_inv.proof i).fits in
     let decides = ranged digest P f rs bs q read proof bytes seen c.covers.result c.lowest.result c.highest-high.result (c.lowest.ensures rs found) (c.highest-high.ensures rs found) c.covers.ensures in
-    wrong-range digest P f rs bs q read proof bytes seen (λ b holds right. both_ways c.covers.result c.if-not-covers.true ((decides b holds).1 right))
+    rw c.at.ensures (wrong-range digest P f rs bs q read proof bytes seen (λ b holds right. both_ways c.covers.result c.if-not-covers.true ((decides b holds).1 right)))
 
 pub returns-in_err-verify_proof : goal.returns-in_err-verify_proof
 returns-in_err-verify_proof g c =

@@ -1,7 +1,7 @@
 use Rattle.std.proofs.Common.{◌+◌, [], refl, arith}
 use Rattle.std.proofs.lemmas.Bool.{lt-leb}
 use Rattle.session.specs.Replies.{agreeing}
-use Rattle.session.specs.Sizes.{members}
+use Rattle.cluster_size.specs.Sizes.{members}
 use Rattle.session.proofs.Counting.{count-never}
 use Rattle.session.proofs.Deciding.{hears_none}
 use Rattle.session.proofs.state.Session.new.Goals as goal

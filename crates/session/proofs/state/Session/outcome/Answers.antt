@@ -1,4 +1,6 @@
 use Rattle.std.proofs.Common.{subst}
+use Rattle.decision.specs.Decisions.{verdict_of}
+use Rattle.session.specs.Replies.{stated}
 use Rattle.session.specs.Standing.{Stands}
 use Rattle.session.proofs.Agreeing.{agree_from, agree_not, honest}
 use Rattle.session.proofs.state.Session.outcome.Goals as goal
@@ -10,5 +12,6 @@ returns-in-Waiting c f rs st =
 
 pub returns-in-Decided : goal.returns-in-Decided
 returns-in-Decided c f rs st =
+    let d = c.in-Decided.decision in
     let agree = subst (Stands f rs) c.in-Decided.is st.stands in
-    (agree_from f rs c.in-Decided.verdict c.in-Decided.version agree, honest f rs c.in-Decided.verdict c.in-Decided.version agree)
+    (agree_from f rs (verdict_of d) (stated d) agree, honest f rs d agree)
