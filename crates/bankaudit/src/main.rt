@@ -6,31 +6,22 @@
 use anyhow::anyhow;
 use audit::state::Audit;
 use board::size::Place;
-use digest::{Fnv, Sha256};
+use digest::{Digest, Fnv, Sha256};
+use sample_keys::sample_keys;
+use seal::Seal;
 use seal::mac::HmacSeal;
 use seal::sip::SipSeal;
-use std::env;
 use store::Store;
 use store::table::Table;
 
-mod hex;
-mod lines;
+mod choice;
 mod replay;
+mod said;
 mod show;
 mod tally;
 
+use choice::{DigestChoice, SealChoice, choices};
 use replay::replay;
-
-const USAGE: &str = "usage: bankaudit [fnv|sha256 sip|hmac]";
-
-// The key of signer s is 32 bytes s.
-fn keys() -> [[u8; 32]; 32] {
-    let mut all = [[0; 32]; 32];
-    for s in 0..32 {
-        all[s] = [s as u8; 32];
-    }
-    all
-}
 
 // Board 0 of four; marks depend on neither.
 fn place() -> anyhow::Result<Place> {
@@ -40,71 +31,31 @@ fn place() -> anyhow::Result<Place> {
     }
 }
 
-// Whether a word chooses the other of two.
-fn chosen(word: &str, usual: &str, other: &str) -> anyhow::Result<bool> {
-    if word == usual {
-        return Ok(false);
-    }
-    if word == other {
-        return Ok(true);
-    }
-    Err(anyhow!(USAGE))
+fn run_with<D: Digest + Drop, L: Seal + Drop>(
+    rt: &HostRuntime,
+    digest: D,
+    seal: L,
+) -> anyhow::Result<()> {
+    let mut audit: Audit<Table, D, L> = Audit::new(place()?, (), digest, seal);
+    replay(rt, &mut audit)
 }
 
-// Whether SHA-256 was chosen, and whether HMAC was.
-fn choices(rt: &HostRuntime) -> anyhow::Result<(bool, bool)> {
-    let mut words = env::args(rt)?;
-    let _program = words.next();
-    let Some(digest) = words.next() else {
-        return Ok((false, false));
-    };
-    let Some(seal) = words.next() else {
-        return Err(anyhow!(USAGE));
-    };
-    let sha = chosen(digest.as_str(), "fnv", "sha256")?;
-    let mac = chosen(seal.as_str(), "sip", "hmac")?;
-    Ok((sha, mac))
+fn run_with_digest<D: Digest + Drop>(
+    rt: &HostRuntime,
+    digest: D,
+    seal: SealChoice,
+) -> anyhow::Result<()> {
+    match seal {
+        SealChoice::Sip => run_with(rt, digest, SipSeal::new(sample_keys())),
+        SealChoice::Hmac => run_with(rt, digest, HmacSeal::new(sample_keys())),
+    }
 }
 
 fn run(rt: &HostRuntime) -> anyhow::Result<()> {
-    let place = place()?;
-    match choices(rt)? {
-        (false, false) => {
-            let mut audit: Audit<Table, Fnv, SipSeal> = Audit::new(
-                place,
-                (),
-                Fnv,
-                SipSeal::new(keys()),
-            );
-            replay(rt, &mut audit)
-        }
-        (false, true) => {
-            let mut audit: Audit<Table, Fnv, HmacSeal> = Audit::new(
-                place,
-                (),
-                Fnv,
-                HmacSeal::new(keys()),
-            );
-            replay(rt, &mut audit)
-        }
-        (true, false) => {
-            let mut audit: Audit<Table, Sha256, SipSeal> = Audit::new(
-                place,
-                (),
-                Sha256,
-                SipSeal::new(keys()),
-            );
-            replay(rt, &mut audit)
-        }
-        (true, true) => {
-            let mut audit: Audit<Table, Sha256, HmacSeal> = Audit::new(
-                place,
-                (),
-                Sha256,
-                HmacSeal::new(keys()),
-            );
-            replay(rt, &mut audit)
-        }
+    let (digest, seal) = choices(rt)?;
+    match digest {
+        DigestChoice::Fnv => run_with_digest(rt, Fnv, seal),
+        DigestChoice::Sha256 => run_with_digest(rt, Sha256, seal),
     }
 }
 

@@ -1,12 +1,13 @@
 // The input, line by line: requests are replayed, and reports judged.
-use crate::lines::{Line, read};
+use crate::said::{Line, read};
 use crate::show::{show_boards, show_replay, show_report};
 use crate::tally::Tally;
 use audit::state::Audit;
 use board::state::Mark;
-use board_line::gather::Gather;
+use decision::Decision;
 use digest::Digest;
-use fault::Verdict;
+use lines::call::LONGEST_FRAME;
+use lines::gather::Gather;
 use seal::Seal;
 use std::io::Read;
 use store::Store;
@@ -18,11 +19,11 @@ fn replay_request<D: Digest, L: Seal>(
     frame: &[u8],
 ) {
     match audit.deliver(frame) {
-        Ok(delivery) => match delivery.verdict {
-            Verdict::Commit => tally.commits = tally.commits.saturating_add(1),
-            Verdict::Abort => tally.aborts = tally.aborts.saturating_add(1),
+        Ok(delivery) => match delivery.decision {
+            Decision::Commit { .. } => tally.commits.add(),
+            Decision::Abort => tally.aborts.add(),
         },
-        Err(_) => tally.refused = tally.refused.saturating_add(1),
+        Err(_) => tally.refused.add(),
     }
 }
 
@@ -39,7 +40,7 @@ fn judge_report<D: Digest, L: Seal>(
             show_report(rt, audit.reports(), board, mark, judged, audit.mark())
         }
         None => {
-            tally.strange = tally.strange.saturating_add(1);
+            tally.strange.add();
             let line = tally.lines;
             println!(rt;
                 "line {line}: no report of board {board} can be judged, boards are 0 to 15"
@@ -55,17 +56,17 @@ fn take_line<D: Digest, L: Seal>(
     tally: &mut Tally,
     line: &[u8],
 ) -> anyhow::Result<()> {
-    let mut frame = [0; 854];
-    tally.lines = tally.lines.saturating_add(1);
-    match read(line, &mut frame) {
-        Line::Passed => Ok(()),
-        Line::Request(n) => {
-            replay_request(audit, tally, &frame[0..n]);
+    let mut room = [0; LONGEST_FRAME];
+    tally.lines.add();
+    match read(line, &mut room) {
+        Some(Line::Passed) => Ok(()),
+        Some(Line::Request(frame)) => {
+            replay_request(audit, tally, frame);
             Ok(())
         }
-        Line::Report(board, mark) => judge_report(rt, audit, tally, board, mark),
-        Line::Strange => {
-            tally.strange = tally.strange.saturating_add(1);
+        Some(Line::Report(board, mark)) => judge_report(rt, audit, tally, board, mark),
+        None => {
+            tally.strange.add();
             let at = tally.lines;
             println!(rt; "line {at}: not understood")?;
             Ok(())
@@ -73,6 +74,7 @@ fn take_line<D: Digest, L: Seal>(
     }
 }
 
+// Nothing below the programs reads or writes, so each program has a loop of its own.
 // Takes the next bytes of the input; false where there are no more.
 fn take_chunk<D: Digest, L: Seal>(
     rt: &HostRuntime,
@@ -82,7 +84,7 @@ fn take_chunk<D: Digest, L: Seal>(
 ) -> anyhow::Result<bool> {
     let mut chunk = [0; 4096];
     let n = rt.stdin().read(&mut chunk)?;
-    for b in &chunk[0..n] {
+    for b in &chunk[..n] {
         if *b == b'\n' {
             take_line(rt, audit, tally, gather.as_slice())?;
             gather.clear();

@@ -5,15 +5,26 @@ use audit::state::Audit;
 use board::state::Mark;
 use digest::Digest;
 use seal::Seal;
+use std::fmt;
 use store::table::Table;
+
+// Bytes as digits of lower case.
+#[derive(Clone, Copy)]
+struct Hex<'a>(&'a [u8]);
+
+impl fmt::Display for Hex<'_> {
+    fn fmt<W: fmt::Write>(&self, f: &mut fmt::Formatter<W>) -> fmt::Result {
+        for b in self.0 {
+            write!(f, "{b:02x}")?;
+        }
+        Ok(())
+    }
+}
 
 fn print_mark(rt: &HostRuntime, mark: Mark) -> anyhow::Result<()> {
     let count = mark.count;
-    print!(rt; "count {count} chain ")?;
-    for b in &mark.chain {
-        let byte = *b;
-        print!(rt; "{byte:02x}")?;
-    }
+    let chain = Hex(&mark.chain);
+    print!(rt; "count {count} chain {chain}")?;
     Ok(())
 }
 
@@ -39,13 +50,18 @@ pub(crate) fn show_report(
     Ok(())
 }
 
-fn show_departure(rt: &HostRuntime, board: u8, departure: Departure) -> anyhow::Result<()> {
+fn show_departure(rt: &HostRuntime, board: u8, departure: Option<Departure>) -> anyhow::Result<()> {
     match departure {
-        Departure::Never => println!(rt; "board {board}: always right")?,
-        Departure::Between { right: 0, wrong } => {
+        None => println!(rt; "board {board}: always right")?,
+        Some(Departure { right: None, wrong }) => {
             println!(rt; "board {board}: wrong from its first report, {wrong}")?
         }
-        Departure::Between { right, wrong } => println!(rt;
+        Some(
+            Departure {
+                right: Some(right),
+                wrong,
+            },
+        ) => println!(rt;
             "board {board}: departed between its report {right} (right) and its report {wrong} (wrong)"
         )?,
     }
@@ -58,9 +74,10 @@ pub(crate) fn show_boards<D: Digest, L: Seal>(
     audit: &Audit<Table, D, L>,
     tally: &Tally,
 ) -> anyhow::Result<()> {
-    for i in 0..16u8 {
-        if tally.reported[i as usize] {
-            show_departure(rt, i, audit.departure(i))?;
+    for (i, reported) in tally.reported.iter().enumerate() {
+        if *reported {
+            let board = i as u8;
+            show_departure(rt, board, audit.departure(board))?;
         }
     }
     Ok(())
@@ -72,7 +89,7 @@ pub(crate) fn show_replay(rt: &HostRuntime, tally: &Tally) -> anyhow::Result<()>
     let aborts = tally.aborts;
     let refused = tally.refused;
     let strange = tally.strange;
-    let requests = commits.saturating_add(aborts).saturating_add(refused);
+    let requests = commits.plus(aborts).plus(refused);
     println!(rt;
         "replay: {requests} requests, {commits} commits, {aborts} aborts, {refused} refused"
     )?;

@@ -1,5 +1,2 @@
-mod Digits
-mod Calls
 mod Served
 mod Written
-mod Ending

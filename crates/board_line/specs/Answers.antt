@@ -1,5 +1,6 @@
 -- What comes of a line: its answer, and the board behind it.
 use Rattle.std.specs.Prelude.{◌≡◌, ℕ, ◌+◌, ◌*◌, List, [], ◌∷◌, ◌++◌, length, Some, None, Ok, Err, Option}
+use Rattle.std.proofs.Common.{refl, subst}
 use Rattle.store.specs.Slot.{Slot}
 use Rattle.history.specs.Answers.{Answered}
 use Rattle.history.specs.Backs.{EventReadsBack}
@@ -7,9 +8,16 @@ use Rattle.history.specs.Events.{Event, asked, delivered, effects, marked, prove
 use Rattle.board.specs.declared.state.Board.{Board}
 use Rattle.board.specs.Standing.{Represents}
 use Rattle.board.specs.WriteSets.{WriteSets}
-use Rattle.board_line.specs.Hex.{hex}
-use Rattle.board_line.specs.Lines.{LineCall, deliver, item, line_call, mark, proof, share_in, share_out}
-use Rattle.board_line.specs.Replies.{event_bytes, no_call_bytes}
+use Rattle.lines.specs.Hex.{hex}
+use Rattle.lines.specs.Lines.{LineCall, deliver, item, kept_of, line_call, mark, proof, share_in, share_out}
+use Rattle.lines.specs.Lines as lines
+use Rattle.lines.specs.Replies.{no_call_bytes}
+use Rattle.lines.proofs.Calls.{kept-call}
+use Rattle.board_line.specs.Replies.{event_bytes}
+
+-- the versions of lines are as wide as those of the board's history
+pub line_width : lines.width ≡ width
+line_width = refl
 
 -- the longest proof, f = 5: 32 entries of 8 writes, each with 6 pairs of signer and tag
 abbrev pub longest_proof : ℕ
@@ -65,3 +73,11 @@ module _ {S D L : Type 0} (holds : S → ℕ → Slot) (digest : List ℕ → Li
     pub bytes : List ℕ
     pub written : digits ≡ hex bytes
     pub served : ServedBytes (line_call line) before after bytes
+
+  -- What is kept of a line is answered as the line is.
+  pub answer_as_kept : (before after : Board S D L) (line digits : List ℕ) → LineAnswers (kept_of line) before after digits → LineAnswers line before after digits
+  answer_as_kept before after line digits told = record {
+    bytes = told.bytes;
+    written = told.written;
+    served = (let P : Option LineCall → Type 0 = λ call. ServedBytes call before after told.bytes in subst P (kept-call line) told.served);
+  }

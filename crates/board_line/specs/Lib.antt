@@ -1,7 +1,2 @@
-pub mod Hex
-pub mod Lines
 pub mod Replies
-pub mod Gathers
-pub mod Shown
 pub mod Answers
-pub mod Serves

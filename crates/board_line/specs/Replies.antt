@@ -1,34 +1,14 @@
 -- The bytes of an answer.
-use Rattle.std.specs.Prelude.{ℕ, ◌+◌, ◌%◌, List, [], ◌∷◌, ◌++◌, length, take, Ok, Err, Result}
-use Rattle.fault.specs.declared.Fault.{Fault}
-use Rattle.fault.specs.declared.Cause.TheVariants.{Malformed}
-use Rattle.fault.specs.declared.Layer.TheVariants.{Frame}
-use Rattle.fault.specs.Codes.{fault, letter, number, verdict_byte}
-use Rattle.octets.specs.Numbers.{be, limit}
-use Rattle.store.specs.Slot.{Slot}
+use Rattle.std.specs.Prelude.{ℕ, List, [], ◌∷◌, ◌++◌, take, unwrap_or, Ok}
+use Rattle.fault.specs.Codes.{verdict_byte}
+use Rattle.decision.specs.Decisions.{verdict_of, version_of}
 use Rattle.history.specs.declared.Delivery.{Delivery}
-use Rattle.history.specs.Events.{Event, asked, delivered, marked, proved, shared_in, shared_out, width}
+use Rattle.history.specs.Events.{Event, asked, delivered, marked, proved, shared_in, shared_out}
+use Rattle.lines.specs.Replies.{item_bytes, mark_bytes, reply, wire}
 
--- a number as a line writes it, at the width of a version; a larger one by its low bytes
-abbrev pub wire : ℕ → List ℕ
-wire n = be width (n % (limit width + 1))
-
--- an answer as bytes: 00 and the answer, or ff, the refusal's number, its layer's letter and its place
-abbrev pub reply : {A : Type 0} → (A → List ℕ) → Result A Fault → List ℕ
-reply say (Ok answer) = 0 ∷ say answer
-reply say (Err f) = 255 ∷ number f.cause ∷ letter f.layer ∷ wire f.place
-
--- verdict, version and number opened
+-- verdict, version and number opened; 0 stands for no version and for no number
 abbrev pub delivery_bytes : Delivery → List ℕ
-delivery_bytes d = verdict_byte d.verdict ∷ wire d.version ++ wire d.opened
-
--- version, length, value and digest of an item
-abbrev pub item_bytes : Slot → List ℕ
-item_bytes s = wire s.version ++ (length s.value ∷ s.value ++ s.digest)
-
--- the count of commits and the chain
-abbrev pub mark_bytes : ℕ → List ℕ → List ℕ
-mark_bytes count chain = wire count ++ chain
+delivery_bytes d = verdict_byte (verdict_of d.decision) ∷ wire (unwrap_or (version_of d.decision) 0) ++ wire (unwrap_or d.opened 0)
 
 -- the count of an entry's shares
 abbrev pub count_bytes : ℕ → List ℕ
@@ -42,7 +22,3 @@ event_bytes (marked count chain) = reply (mark_bytes count) (Ok chain)
 event_bytes (shared_out version before after r) = reply (λ n. take n after) r
 event_bytes (shared_in frame r) = reply count_bytes r
 event_bytes (proved low high before after r) = reply (λ n. take n after) r
-
--- the bytes of the answer to a line that asks for no call: refused as malformed, in layer F, at place 0
-abbrev pub no_call_bytes : List ℕ
-no_call_bytes = reply {A = ℕ} count_bytes (Err (fault Malformed Frame 0))

@@ -1,21 +1,33 @@
 // A board that is fed bytes and answers each line as it ends.
-use crate::gather::Gather;
-use crate::reply::AnswerLine;
-use board::state::Board;
+ghost use Rattle.std.specs.Prelude.{◌≡◌, []};
+ghost use Rattle.lines.specs.Shown.{digits_of};
 
-pub mod bytes;
+use board::state::Board;
+use lines::answer_line::AnswerLine;
+
+pub mod answers;
 
 // The answer is kept until the next, so that it is written in one place.
 #[derive(Drop)]
-pub struct Serving<S, D, L> {
+pub struct Answerer<S, D, L> {
     board: Board<S, D, L>,
-    gather: Gather,
-    answer: AnswerLine,
+    answer: AnswerLine<23628>,
 }
 
-// What a byte brings: nothing yet, or the answer to a line.
-#[derive(Clone, Copy)]
-pub enum Step {
-    More,
-    Answer,
+impl<S, D, L> Answerer<S, D, L> {
+    pub fn new(board: Board<S, D, L>) -> Answerer<S, D, L>
+        ensures { (result.board ≡ board) × (digits_of result.answer ≡ []) }
+    {
+        Answerer {
+            board,
+            answer: AnswerLine::new(),
+        }
+    }
+
+    // The digits of the last answer.
+    pub fn digits(&self) -> &[u8]
+        ensures { result.now ≡ digits_of self.now.answer }
+    {
+        self.answer.as_slice()
+    }
 }

@@ -5,8 +5,10 @@
 mod tests {
     use board::size::Place;
     use board::state::Board;
-    use board_line::serve::{Serving, Step};
+    use board_line::serve::Answerer;
     use digest::Fnv;
+    use lines::serve::Serving;
+    use sample_keys::sample_keys;
     use seal::sip::SipSeal;
     use std::alloc::{AllocError, Global};
     use std::process::Abort;
@@ -25,42 +27,31 @@ mod tests {
 
     const SHARE_0: &[u8] = b"020000018e63d5a76678eeec0000000000000000\n";
 
-    fn put_step(
-        out: &mut Vec<u8>,
-        serving: &Serving<Table, Fnv, SipSeal>,
-        step: Step,
-    ) -> Result<(), AllocError> {
-        match step {
-            Step::More => Ok(()),
-            Step::Answer => {
-                out.extend_from_slice(serving.answer())?;
-                out.push(b'\n')?;
-                Ok(())
-            }
-        }
-    }
-
-    // Signer s has a key of bytes s.
-    fn keys() -> [[u8; 32]; 32] {
-        let mut all = [[0u8; 32]; 32];
-        for s in 0..32 {
-            all[s] = [s as u8; 32];
-        }
-        all
+    fn put_answer(out: &mut Vec<u8>, digits: &[u8]) -> Result<(), AllocError> {
+        out.extend_from_slice(digits)?;
+        out.push(b'\n')?;
+        Ok(())
     }
 
     // What a new board 0 for f = 1 writes for an input.
     fn served(heap: Global, input: &[u8]) -> Result<Vec<u8>, Fail> {
         let place = Place::new(1, 0)?;
-        let board: Board<Table, Fnv, SipSeal> = Board::new(place, (), Fnv, SipSeal::new(keys()));
-        let mut serving = Serving::new(board);
+        let board: Board<Table, Fnv, SipSeal> = Board::new(
+            place,
+            (),
+            Fnv,
+            SipSeal::new(sample_keys()),
+        );
+        let mut serving = Serving::new(Answerer::new(board));
         let mut out = Vec::new(heap);
         for b in input {
-            let step = serving.take(*b);
-            put_step(&mut out, &serving, step)?;
+            if serving.take(*b).is_some() {
+                put_answer(&mut out, serving.answerer().digits())?;
+            }
         }
-        let step = serving.finish();
-        put_step(&mut out, &serving, step)?;
+        if serving.finish().is_some() {
+            put_answer(&mut out, serving.answerer().digits())?;
+        }
         Ok(out)
     }
 

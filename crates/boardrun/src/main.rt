@@ -1,8 +1,9 @@
 // The line program: a board on standard input and output, one line of hexadecimal digits to a call.
 #![tactic(auto)]
 
-use board_line::serve::{Serving, Step};
+use board_line::serve::Answerer;
 use digest::Fnv;
+use lines::serve::Serving;
 use seal::sip::SipSeal;
 use std::io::{Read, Write};
 use store::table::Table;
@@ -11,33 +12,25 @@ mod start;
 
 use start::start;
 
-// Writes what a step brings.
-fn write_step(
-    out: &mut impl Write,
-    serving: &Serving<Table, Fnv, SipSeal>,
-    step: Step,
-) -> anyhow::Result<()> {
-    match step {
-        Step::More => Ok(()),
-        Step::Answer => {
-            out.write_all(serving.answer())?;
-            out.write_all(b"\n")?;
-            Ok(())
-        }
-    }
+fn write_answer(out: &mut impl Write, digits: &[u8]) -> anyhow::Result<()> {
+    out.write_all(digits)?;
+    out.write_all(b"\n")?;
+    Ok(())
 }
 
+// Nothing below the programs reads or writes, so each program has a loop of its own.
 // Feeds the next bytes of the input to the board and writes the answers; false where there are no more.
 fn serve_chunk(
-    serving: &mut Serving<Table, Fnv, SipSeal>,
+    serving: &mut Serving<Answerer<Table, Fnv, SipSeal>>,
     input: &mut impl Read,
     output: &mut impl Write,
 ) -> anyhow::Result<bool> {
     let mut chunk = [0; 4096];
     let n = input.read(&mut chunk)?;
-    for b in &chunk[0..n] {
-        let step = serving.take(*b);
-        write_step(output, serving, step)?;
+    for b in &chunk[..n] {
+        if serving.take(*b).is_some() {
+            write_answer(output, serving.answerer().digits())?;
+        }
     }
     Ok(n > 0)
 }
@@ -51,8 +44,10 @@ fn run(rt: &HostRuntime) -> anyhow::Result<()> {
             break;
         }
     }
-    let step = serving.finish();
-    write_step(&mut output, &serving, step)
+    if serving.finish().is_some() {
+        write_answer(&mut output, serving.answerer().digits())?;
+    }
+    Ok(())
 }
 
 fn main(rt: HostRuntime) -> anyhow::Result<()> {

@@ -1,6 +1,4 @@
-pub mod Hex
-pub mod Lines
 pub mod Replies
-pub mod Gathers
 pub mod Shown
+pub mod Kept
 pub mod Serves

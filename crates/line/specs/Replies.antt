@@ -1,33 +1,16 @@
 -- The whole answer line.
-use Rattle.std.specs.Prelude.{ℕ, ◌+◌, ◌%◌, List, ◌∷◌, ◌++◌, length, Some, None, Ok, Err, Option, Result}
+use Rattle.std.specs.Prelude.{ℕ, List, Some, None, Ok, Err, Option, Result}
 use Rattle.fault.specs.declared.Fault.{Fault}
-use Rattle.fault.specs.declared.Cause.TheVariants.{Malformed}
-use Rattle.fault.specs.declared.Layer.TheVariants.{Frame}
-use Rattle.fault.specs.Codes.{fault, letter, number}
-use Rattle.octets.specs.Numbers.{be, limit}
 use Rattle.store.specs.Slot.{Slot}
 use Rattle.bank.specs.Answers.{empty_proof, item_answer, proof_answer, share_refusal}
-use Rattle.line.specs.declared.call.Call.{Call}
-use Rattle.line.specs.declared.call.Call.TheVariants.{Deliver, Item, Mark, Proof, ShareIn, ShareOut}
-use Rattle.line.specs.Hex.{hex}
-use Rattle.line.specs.Lines.{line_call, width}
+use Rattle.lines.specs.Hex.{hex}
+use Rattle.lines.specs.Lines.{LineCall, deliver, item, line_call, mark, proof, share_in, share_out}
+use Rattle.lines.specs.Replies.{item_bytes, mark_bytes, no_call_bytes}
+use Rattle.lines.specs.Replies as lines
 
--- a number as a line writes it, at the width of a version; a larger one by its low bytes
-abbrev pub wire : ℕ → List ℕ
-wire n = be width (n % (limit width + 1))
-
--- an answer as bytes: 00 and the answer, or ff, the refusal's number, its layer's letter and its place
+-- an answer as bytes: 00 and the answer, or the refusal
 abbrev pub answer_bytes : Result (List ℕ) Fault → List ℕ
-answer_bytes (Ok answer) = 0 ∷ answer
-answer_bytes (Err f) = 255 ∷ number f.cause ∷ letter f.layer ∷ wire f.place
-
--- version, length, value and digest of an item
-abbrev pub item_bytes : Slot → List ℕ
-item_bytes s = wire s.version ++ (length s.value ∷ s.value ++ s.digest)
-
--- the count of commits and the chain
-abbrev pub mark_bytes : ℕ → List ℕ → List ℕ
-mark_bytes count chain = wire count ++ chain
+answer_bytes r = lines.reply (λ answer. answer) r
 
 abbrev pub item_reply : Result Slot Fault → List ℕ
 item_reply (Ok s) = answer_bytes (Ok (item_bytes s))
@@ -39,18 +22,18 @@ proof_reply (Err f) = answer_bytes (Err f)
 
 -- What a bank says to a call: none to the two kinds that it does not serve.
 module _ (digest : List ℕ → List ℕ) (holds : ℕ → Slot) (count : ℕ) (chain : List ℕ) where
-  abbrev pub reply : Call → Option (List ℕ)
-  reply Deliver = None
-  reply ShareIn = None
-  reply (Proof low high) = Some (proof_reply (proof_answer low high 5))
-  reply (Item x) = Some (item_reply (item_answer digest holds x))
-  reply Mark = Some (answer_bytes (Ok (mark_bytes count chain)))
-  reply (ShareOut version) = Some (answer_bytes (Err (share_refusal version)))
+  abbrev pub reply : LineCall → Option (List ℕ)
+  reply (deliver frame) = None
+  reply (share_in frame) = None
+  reply (proof low high) = Some (proof_reply (proof_answer low high 5))
+  reply (item x) = Some (item_reply (item_answer digest holds x))
+  reply mark = Some (answer_bytes (Ok (mark_bytes count chain)))
+  reply (share_out version) = Some (answer_bytes (Err (share_refusal version)))
 
   -- what it says to a line that may ask for no call: refused 1, layer F, place 0
-  abbrev pub reply_to : Option Call → Option (List ℕ)
+  abbrev pub reply_to : Option LineCall → Option (List ℕ)
   reply_to (Some call) = reply call
-  reply_to None = Some (answer_bytes (Err (fault Malformed Frame 0)))
+  reply_to None = Some no_call_bytes
 
 abbrev pub digits : Option (List ℕ) → Option (List ℕ)
 digits (Some bs) = Some (hex bs)

@@ -1,27 +1,15 @@
--- What comes of the bytes of an input, fed one by one.
-use Rattle.std.specs.Prelude.{◌≡◌, ℕ, List, [], ◌∷◌, ◌++◌, Some, None, Option, ◌≢◌}
-use Rattle.line.specs.declared.serve.Step.{Step}
-use Rattle.line.specs.declared.serve.Step.TheVariants.{Answer, More, NotServed}
-use Rattle.line.specs.Lines.{kept_of}
-use Rattle.line.specs.Shown.{digits_of}
+-- What comes of the bytes of an input that a bank is fed: the bank stays as it is.
+use Rattle.std.specs.Prelude.{◌≡◌, ℕ, List, Option}
+use Rattle.lines.specs.Serves.{Finishes, Takes, finished_same, taken_same}
 
--- a step answers with these digits, or says that there are none
-abbrev pub Says : Option (List ℕ) → Step → Type 0
-Says answer (Answer a) = answer ≡ Some (digits_of a)
-Says answer NotServed = answer ≡ None
-Says answer More = ⊥
+-- Where each answer tells its own and leaves the answerer as it was, so does a byte.
+pub bank_taken : {A R : Type 0} (old new : A) (Told : List ℕ → R → Type 0) (before : List ℕ) (byte : ℕ) (after : List ℕ) (step : Option R)
+    → Takes (λ line answer. (new ≡ old) × Told line answer) (new ≡ old) before byte after step → new ≡ old
+bank_taken old new Told before byte after step takes =
+    taken_same (λ line answer. (new ≡ old) × Told line answer) (new ≡ old) before byte after step (λ line answer told. told.0) takes
 
--- The line that has ended is answered, whichever line it is of which this much was kept.
-abbrev pub Ends : (List ℕ → Option (List ℕ)) → List ℕ → Step → Type 0
-Ends answer kept step = (line : List ℕ) → kept ≡ kept_of line → Says (answer line) step
-
--- A byte: LF (10) ends the line, and the next begins; any other is put behind it.
-abbrev pub Takes : (List ℕ → Option (List ℕ)) → List ℕ → ℕ → List ℕ → Step → Type 0
-Takes answer before byte after step =
-    (byte ≡ 10 → (after ≡ []) × Ends answer before step)
-    × ((byte ≢ 10) → (after ≡ kept_of (before ++ byte ∷ [])) × (step ≡ More))
-
--- The end of the input: a line that has begun is answered; else there is none.
-abbrev pub Finishes : (List ℕ → Option (List ℕ)) → List ℕ → Step → Type 0
-Finishes answer [] step = step ≡ More
-Finishes answer (b ∷ bs) step = Ends answer (b ∷ bs) step
+-- So does the end of the input.
+pub bank_finished : {A R : Type 0} (old new : A) (Told : List ℕ → R → Type 0) (before : List ℕ) (step : Option R)
+    → Finishes (λ line answer. (new ≡ old) × Told line answer) (new ≡ old) before step → new ≡ old
+bank_finished old new Told before step finishes =
+    finished_same (λ line answer. (new ≡ old) × Told line answer) (new ≡ old) before step (λ line answer told. told.0) finishes

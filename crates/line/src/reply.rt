@@ -1,13 +1,17 @@
-// The answer line of a line.
-ghost use Rattle.std.specs.Prelude.{◌≡◌, ◌≤◌, length};
+// The answer line of a line, or that its kind is not served.
+use std::error::Error;
+use std::fmt;
 
 pub mod answers;
 
-// The longest answer is an item's: 00, version, length, 32 bytes of value, digest.
-#[derive(Drop)]
-pub struct AnswerLine {
-    digits: [u8; 136],
-    len: usize,
-    ghost within: { len ≤ 136 },
-    ghost whole: { length digits ≡ 136 },
+// A line of a kind that a bank with no commits does not serve.
+#[derive(Clone, Copy, PartialEq, Eq, Debug)]
+pub struct NotServed;
+
+impl fmt::Display for NotServed {
+    fn fmt<W: fmt::Write>(&self, f: &mut fmt::Formatter<W>) -> fmt::Result {
+        f.write_str("requests and shares are not served yet")
+    }
 }
+
+impl Error for NotServed {}

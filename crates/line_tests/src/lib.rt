@@ -5,7 +5,10 @@
 mod tests {
     use bank::state::Bank;
     use digest::Fnv;
-    use line::serve::{Serving, Step};
+    use line::reply::NotServed;
+    use line::serve::Answerer;
+    use lines::answer_line::AnswerLine;
+    use lines::serve::Serving;
     use std::alloc::{AllocError, Global};
     use std::process::Abort;
     use std::test::Fail;
@@ -14,27 +17,33 @@ mod tests {
 
     const REFUSED: &[u8] = b"ff01460000\n";
 
-    fn put_step(out: &mut Vec<u8>, step: Step) -> Result<(), AllocError> {
-        match step {
-            Step::More => Ok(()),
-            Step::Answer(line) => {
+    fn put_answer(
+        out: &mut Vec<u8>,
+        answer: Result<AnswerLine<136>, NotServed>,
+    ) -> Result<(), AllocError> {
+        match answer {
+            Ok(line) => {
                 out.extend_from_slice(line.as_slice())?;
                 out.push(b'\n')?;
                 Ok(())
             }
-            Step::NotServed => out.extend_from_slice(b"not served\n"),
+            Err(NotServed) => out.extend_from_slice(b"not served\n"),
         }
     }
 
     // What is written for an input.
     fn served(heap: Global, input: &[u8]) -> Result<Vec<u8>, AllocError> {
         let bank: Bank<Table, Fnv> = Bank::new((), Fnv);
-        let mut serving = Serving::new(bank);
+        let mut serving = Serving::new(Answerer::new(bank));
         let mut out = Vec::new(heap);
         for b in input {
-            put_step(&mut out, serving.take(*b))?;
+            if let Some(answer) = serving.take(*b) {
+                put_answer(&mut out, answer)?;
+            }
         }
-        put_step(&mut out, serving.finish())?;
+        if let Some(answer) = serving.finish() {
+            put_answer(&mut out, answer)?;
+        }
         Ok(out)
     }
 

@@ -1,10 +1,9 @@
 use Rattle.std.proofs.Common.{◌≡◌, ℕ, length, take, drop, sym, refl, ap, ◌∙◌, subst, arith, length-drop, length-take}
-use borrow.Rule.Slice.PartMut.{same_len_mid}
 use Rattle.history.specs.Events.{asked, delivered, marked, proved, shared_in, shared_out}
-use Rattle.board.specs.Said.{said}
+use Rattle.bank.specs.Answers.{said}
 use Rattle.board.proofs.Sets.{sets_quiet, share_quiet}
-use Rattle.board_line.specs.Lines.{asks_for}
-use Rattle.board_line.specs.Replies.{reply}
+use Rattle.lines.specs.Lines.{asks_for}
+use Rattle.lines.specs.Replies.{reply}
 use Rattle.board_line.proofs.Served.{delivered-changes, shared_changes}
 use Rattle.board_line.proofs.Written.{Few, lent_back, proof-few, share-few}
 use Rattle.board_line.proofs.reply.answers.put_reply.Goals as goal
@@ -65,11 +64,11 @@ pub returns-in-Mark : goal.returns-in-Mark
 returns-in-Mark g c = record {
   bound = c.put_mark.ensures.bound;
   served = record {
-    event = marked c.mark.result.count c.mark.result.chain;
+    event = marked c.mark-mark.result.count c.mark-mark.result.chain;
     asks = ap asks_for (sym c.in-Mark.is);
     roomy = tt;
     says = c.put_mark.ensures.front;
-    history = λ tag f own h st sets. (let told = c.mark.ensures.history tag f own h st in (told.0, tt, told.1, sets_quiet h _ refl sets));
+    history = λ tag f own h st sets. (let told = c.mark-mark.ensures.history tag f own h st in (told.0, tt, told.1, sets_quiet h _ refl sets));
     changes = refl;
   };
 }
@@ -92,17 +91,11 @@ put_written-requires g c =
     let old = take 11813 (drop 1 c.args.out.now) in
     let room : length old ≡ 11813 = simp (length-take, length-drop) (omega arith) in
     let P : ℕ → Type 0 = λ k. Few k c.proof-written.result in
-    record {
-      room = same_len_mid 1 11813 c.args.out.now c.proof-written.new.out c.proof-written.auto.out ∙ c.requires;
-      within = subst P room (proof-few c.args.board.now.window c.args.board.now.place.f c.args.board.now.count c.in-Proof.low c.in-Proof.high (length old) c.proof-written.result c.proof-written.ensures.answer);
-    }
+    subst P room (proof-few c.args.board.now.window c.args.board.now.place.size.f c.args.board.now.count c.in-Proof.low c.in-Proof.high (length old) c.proof-written.result c.proof-written.ensures.answer)
 
 pub put_written-requires-in-ShareOut : goal.put_written-requires-in-ShareOut
 put_written-requires-in-ShareOut g c =
     let old = take 11813 (drop 1 c.args.out.now) in
     let room : length old ≡ 11813 = simp (length-take, length-drop) (omega arith) in
     let P : ℕ → Type 0 = λ k. Few k c.share_out-written.result in
-    record {
-      room = same_len_mid 1 11813 c.args.out.now c.share_out-written.new.out c.share_out-written.auto.out ∙ c.requires;
-      within = subst P room (share-few c.args.board.now.count c.in-ShareOut.version (length old) c.share_out-written.result c.share_out-written.ensures.answer);
-    }
+    subst P room (share-few c.args.board.now.count c.in-ShareOut.version (length old) c.share_out-written.result c.share_out-written.ensures.answer)

@@ -1,7 +1,0 @@
--- What is kept of a line while it comes in.
-use Rattle.std.specs.Prelude.{ℕ, List, take}
-use Rattle.board_line.specs.declared.gather.Gather.{Gather}
-
--- the bytes gathered
-abbrev pub gathered : Gather → List ℕ
-gathered g = take g.len g.kept
