@@ -2,28 +2,40 @@
 // A line is an item's number, a space and the value as text; an empty line and one that begins with # is passed over.
 #![tactic(auto)]
 
-use anyhow::anyhow;
+use anyhow::Context;
 use digest::{Digest, Fnv};
+use std::fmt;
 use store::Store;
 use store::item::Item;
 use store::record::Record;
 use store::table::Table;
 use store::value::Value;
 
+// Bytes in hexadecimal digits.
+#[derive(Clone, Copy)]
+struct Hex<'a>(&'a [u8]);
+
+impl fmt::Display for Hex<'_> {
+    fn fmt<W: fmt::Write>(&self, f: &mut fmt::Formatter<W>) -> fmt::Result {
+        for byte in self.0 {
+            write!(f, "{byte:02x}")?;
+        }
+        Ok(())
+    }
+}
+
 // Installs the value of one line under a version of its own.
 fn load(table: &mut Table, version: u32, line: &str) -> anyhow::Result<Item> {
-    let Some((number, text)) = line.split_once(' ') else {
-        return Err(anyhow!("a line wants an item's number, a space and a value"));
-    };
-    let Some(item) = Item::new(number.parse::<u8>()?) else {
-        return Err(anyhow!("an item is 0 to 63"));
-    };
-    let Some(value) = Value::new(text.as_bytes()) else {
-        return Err(anyhow!("a value has at most 32 bytes"));
-    };
-    let Ok(digest) = Fnv.digest(&[], text.as_bytes()) else {
-        return Err(anyhow!("the value cannot be digested"));
-    };
+    let (number, text) = line
+        .split_once(' ')
+        .context("a line wants an item's number, a space and a value")?;
+    let bytes = text.as_bytes();
+    let item = Item::new(number.parse::<u8>()?).context("an item is 0 to 63")?;
+    let value = Value::new(bytes).context("a value has at most 32 bytes")?;
+    let digest = Fnv
+        .digest(&[], bytes)
+        .ok()
+        .context("the value cannot be digested")?;
     table.install(
         item,
         Record {
@@ -35,25 +47,17 @@ fn load(table: &mut Table, version: u32, line: &str) -> anyhow::Result<Item> {
     Ok(item)
 }
 
-fn print_bytes(rt: &HostRuntime, bytes: &[u8]) -> anyhow::Result<()> {
-    for b in bytes {
-        let byte = *b;
-        print!(rt; "{byte:02x}")?;
-    }
-    Ok(())
-}
-
 // Reads an item back from the store.
 fn show(rt: &HostRuntime, table: &Table, item: Item) -> anyhow::Result<()> {
     let row = table.look_up(item);
     let number = item.number();
     let version = row.version;
     let length = row.value.len();
-    print!(rt; "item {number:2} version {version:2} length {length:2} value ")?;
-    print_bytes(rt, row.value.as_slice())?;
-    print!(rt; " digest ")?;
-    print_bytes(rt, &row.digest)?;
-    println!(rt; "")?;
+    let value = Hex(row.value.as_slice());
+    let digest = Hex(&row.digest);
+    println!(rt;
+        "item {number:2} version {version:2} length {length:2} value {value} digest {digest}"
+    )?;
     Ok(())
 }
 

@@ -1,13 +1,13 @@
 // How the rehearsal tells what happened.
 use crate::answer::Answer;
-use crate::cluster::{Cluster, Decision};
-use crate::play::Posted;
+use crate::cluster::Ruling;
+use crate::play::{Play, Posted};
 use crate::shares::Passed;
-use crate::station::Told;
+use crate::station::{Told, Unread};
+use decision::Decision;
 use digest::Digest;
-use fault::{Fault, Verdict};
+use fault::Fault;
 use seal::Seal;
-use session::replies::Outcome;
 use std::fmt;
 
 // A refusal in words.
@@ -17,18 +17,30 @@ pub struct Why(pub Fault);
 impl fmt::Display for Why {
     fn fmt<W: fmt::Write>(&self, f: &mut fmt::Formatter<W>) -> fmt::Result {
         let cause = self.0.cause;
-        let layer = char::from(self.0.layer.letter());
+        let layer = char::from(u8::from(self.0.layer));
         let place = self.0.place;
         write!(f, "{cause:?}, layer {layer}, place {place}")
     }
 }
 
+// A decision in words.
+#[derive(Clone, Copy)]
+struct InWords(Decision);
+
+impl fmt::Display for InWords {
+    fn fmt<W: fmt::Write>(&self, f: &mut fmt::Formatter<W>) -> fmt::Result {
+        match self.0 {
+            Decision::Commit { version } => write!(f, "commit {version}"),
+            Decision::Abort => write!(f, "abort"),
+        }
+    }
+}
+
 impl fmt::Display for Answer {
     fn fmt<W: fmt::Write>(&self, f: &mut fmt::Formatter<W>) -> fmt::Result {
-        match *self {
-            Answer::Commit { version, .. } => write!(f, "commit {version}"),
-            Answer::Abort { .. } => write!(f, "abort"),
-            Answer::Refused(fault) => {
+        match self.0 {
+            Ok(judged) => InWords(judged.decision).fmt(f),
+            Err(fault) => {
                 let why = Why(fault);
                 write!(f, "refused: {why}")
             }
@@ -36,19 +48,18 @@ impl fmt::Display for Answer {
     }
 }
 
-impl fmt::Display for Told {
+impl fmt::Display for Unread {
     fn fmt<W: fmt::Write>(&self, f: &mut fmt::Formatter<W>) -> fmt::Result {
         match *self {
-            Told::Accepted(m) => write!(f, "accepted, state after {m} commits"),
-            Told::Refused(fault) => {
+            Unread::Refused(fault) => {
                 let why = Why(fault);
                 write!(f, "refused: {why}")
             }
-            Told::NoProof(fault) => {
+            Unread::NoProof(fault) => {
                 let cause = fault.cause;
                 write!(f, "no proof: {cause:?}")
             }
-            Told::NoItems(fault) => {
+            Unread::NoItems(fault) => {
                 let cause = fault.cause;
                 write!(f, "no items: {cause:?}")
             }
@@ -56,67 +67,74 @@ impl fmt::Display for Told {
     }
 }
 
-fn say_decision(rt: &HostRuntime, decision: Decision) -> anyhow::Result<()> {
-    let replies = decision.replies;
-    match decision.outcome {
-        Outcome::Waiting => println!(rt; "   session: waiting, {replies} replies")?,
-        Outcome::Decided { verdict, version } => match verdict {
-            Verdict::Commit => {
-                println!(rt; "   session: commit {version}, decided by {replies} replies")?
+impl fmt::Display for Told {
+    fn fmt<W: fmt::Write>(&self, f: &mut fmt::Formatter<W>) -> fmt::Result {
+        match self.0 {
+            Ok(m) => write!(f, "accepted, state after {m} commits"),
+            Err(unread) => unread.fmt(f),
+        }
+    }
+}
+
+impl fmt::Display for Ruling {
+    fn fmt<W: fmt::Write>(&self, f: &mut fmt::Formatter<W>) -> fmt::Result {
+        let replies = self.replies;
+        match self.decision {
+            Some(decision) => {
+                let decision = InWords(decision);
+                write!(f, "{decision}, decided by {replies} replies")
             }
-            Verdict::Abort => println!(rt; "   session: abort, decided by {replies} replies")?,
-        },
-    }
-    Ok(())
-}
-
-// What the boards answered to a request, the honest ones together, and what its session decided.
-pub fn say_posted<D: Digest + Copy, L: Seal + Copy>(
-    rt: &HostRuntime,
-    cluster: &Cluster<D, L>,
-    posted: &Posted,
-) -> anyhow::Result<()> {
-    let last = cluster.honest.saturating_sub(1);
-    for (board, answer) in posted.answers.as_slice().iter().enumerate() {
-        if board == last {
-            println!(rt; "   boards 0 to {last}: {answer}")?;
-        }
-        if board > last {
-            println!(rt; "   board {board}: {answer}")?;
+            None => write!(f, "waiting, {replies} replies"),
         }
     }
-    say_decision(rt, posted.decision)
 }
 
-// The version that each board tells of an item.
-pub fn say_versions<D: Digest + Copy, L: Seal + Copy>(
-    rt: &HostRuntime,
-    cluster: &Cluster<D, L>,
-    item: u8,
-) -> anyhow::Result<()> {
-    print!(rt; "   item {item} then, board by board:")?;
-    for seat in cluster.seats.as_slice() {
-        match seat.node.item(item) {
-            Ok(told) => {
-                let version = told.version;
-                print!(rt; " version {version};")?;
+impl fmt::Display for Passed {
+    fn fmt<W: fmt::Write>(&self, f: &mut fmt::Formatter<W>) -> fmt::Result {
+        let Passed {
+            handed_out,
+            withheld,
+            taken,
+            not_due,
+            refused,
+        } = *self;
+        writeln!(f, "   handed out {handed_out}, withheld {withheld}")?;
+        write!(
+            f,
+            "   taken in {taken}, no longer due {not_due}, refused {refused}"
+        )
+    }
+}
+
+impl<D: Digest + Copy, L: Seal + Copy> Play<'_, D, L> {
+    // What the boards answered to a request, the honest ones together, and what its session decided.
+    pub fn say_posted(&self, posted: &Posted) -> anyhow::Result<()> {
+        let last = self.cluster.honest.saturating_sub(1);
+        for (board, answer) in posted.answers.iter().enumerate().skip(last) {
+            if board == last {
+                println!(self.rt; "   boards 0 to {last}: {answer}")?;
+            } else {
+                println!(self.rt; "   board {board}: {answer}")?;
             }
-            Err(_) => print!(rt; " refused;")?,
         }
+        let ruling = posted.ruling;
+        println!(self.rt; "   session: {ruling}")?;
+        Ok(())
     }
-    println!(rt; "")?;
-    Ok(())
-}
 
-pub fn say_passed(rt: &HostRuntime, passed: Passed) -> anyhow::Result<()> {
-    let Passed {
-        handed_out,
-        withheld,
-        taken,
-        not_due,
-        refused,
-    } = passed;
-    println!(rt; "   handed out {handed_out}, withheld {withheld}")?;
-    println!(rt; "   taken in {taken}, no longer due {not_due}, refused {refused}")?;
-    Ok(())
+    // The version that each board tells of an item.
+    pub fn say_versions(&self, item: u8) -> anyhow::Result<()> {
+        print!(self.rt; "   item {item} then, board by board:")?;
+        for seat in self.cluster.seats.iter() {
+            match seat.node.item(item) {
+                Ok(told) => {
+                    let version = told.version;
+                    print!(self.rt; " version {version};")?;
+                }
+                Err(_) => print!(self.rt; " refused;")?,
+            }
+        }
+        println!(self.rt; "")?;
+        Ok(())
+    }
 }

@@ -24,53 +24,43 @@ mod wrong;
 
 use stage::{Piece, start};
 use std::env;
-use tools::push;
-use ways::{WAYS, Way};
-use words::{DigestName, SealName, Wish, read_words};
+use ways::WAYS;
+use words::{DigestName, SealName, Wish};
+
+// The digests and seals that the ways are played with, in turn.
+const PAIRS: [(DigestName, SealName); 4] = [
+    (DigestName::Sha256, SealName::Hmac),
+    (DigestName::Fnv, SealName::Hmac),
+    (DigestName::Sha256, SealName::Sip),
+    (DigestName::Fnv, SealName::Sip),
+];
 
 fn list_ways(rt: &HostRuntime) -> anyhow::Result<()> {
     for way in &WAYS {
-        let name = way.name();
         let does = way.does();
-        println!(rt; "{name:<16}  it {does}")?;
+        println!(rt; "{way:<16}  it {does}")?;
     }
     Ok(())
 }
 
-// A wish with one wrong board; digest and seal vary with the number.
-fn wish_of(rt: &HostRuntime, number: usize, way: Option<Way>) -> anyhow::Result<Wish> {
-    let mut ways = Vec::new(rt.alloc());
-    if let Some(way) = way {
-        push(&mut ways, way)?;
-    }
-    let digest = if number % 2 == 0 {
-        DigestName::Sha256
-    } else {
-        DigestName::Fnv
-    };
-    let seal = if number % 4 < 2 {
-        SealName::Hmac
-    } else {
-        SealName::Sip
-    };
-    Ok(Wish {
-        f: 1,
-        digest,
-        seal,
-        ways,
-    })
-}
-
 // Every way in turn, and then the long runs.
 fn play_all(rt: &HostRuntime) -> anyhow::Result<()> {
-    for (number, way) in WAYS.iter().enumerate() {
-        let wish = wish_of(rt, number, Some(*way))?;
+    for (way, pair) in WAYS.iter().zip(PAIRS.iter().cycle()) {
+        let wish = Wish::of_four(rt.alloc(), *pair, &[*way])?;
         start(rt, &wish, Piece::Acts)?;
         println!(rt; "")?;
     }
-    start(rt, &wish_of(rt, 0, None)?, Piece::Run(40))?;
+    start(
+        rt,
+        &Wish::of_four(rt.alloc(), PAIRS[0], &[])?,
+        Piece::Run(40),
+    )?;
     println!(rt; "")?;
-    start(rt, &wish_of(rt, 3, None)?, Piece::Run(300))
+    start(
+        rt,
+        &Wish::of_four(rt.alloc(), PAIRS[3], &[])?,
+        Piece::Run(300),
+    )
 }
 
 fn run(rt: &HostRuntime) -> anyhow::Result<()> {
@@ -78,7 +68,7 @@ fn run(rt: &HostRuntime) -> anyhow::Result<()> {
     match words.as_slice() {
         [word] if word.as_str() == "all" => play_all(rt),
         [word] if word.as_str() == "ways" => list_ways(rt),
-        some => start(rt, &read_words(rt.alloc(), some)?, Piece::Acts),
+        some => start(rt, &Wish::read(rt.alloc(), some)?, Piece::Acts),
     }
 }
 

@@ -1,4 +1,4 @@
-// Bytes of a frame, changed where they stand.
+// A request's records, and bytes of a frame changed where they stand.
 use fault::Fault;
 use label::Label;
 use request::Request;
@@ -34,8 +34,6 @@ pub fn seal_anew<L: Seal>(seal: &L, request: Request<'_>, frame: &mut [u8]) -> R
 pub fn is_sealed<L: Seal>(seal: &L, request: Request<'_>) -> bool {
     let signer = client_signer(request.plan.top.client);
     let label = Label::Request.bytes();
-    match seal.check(signer, &label, request.covered(), request.tag) {
-        Ok(passes) => passes,
-        Err(_) => false,
-    }
+    seal.check(signer, &label, request.covered(), request.tag)
+        .unwrap_or(false)
 }

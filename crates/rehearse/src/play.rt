@@ -1,26 +1,23 @@
 // A cluster at work: clients send requests, sessions decide, and what was decided is noted.
 use crate::answer::Answer;
-use crate::cluster::{Cluster, Decision};
-use crate::tools::{front, push, sure};
+use crate::cluster::{Cluster, Ruling};
+use crate::node::Suite;
+use crate::tools::{front, one_more, sure};
 use crate::truth::Truth;
-use crate::ways::Way;
+use crate::words::Wish;
+use decision::Decision;
 use digest::Digest;
-use fault::Verdict;
 use request::item::{ReadItem, WriteItem};
 use seal::Seal;
 use sealed_request::{Unsealed, seal_request};
-use session::replies::Outcome;
-use std::alloc::{AllocError, Global};
+use std::alloc::AllocError;
 
 // The longest request.
 pub const REQUEST: usize = 854;
 
-#[derive(Drop)]
-pub struct Play<D: Digest, L: Seal> {
-    pub cluster: Cluster<D, L>,
-    pub truth: Truth,
-    pub commits: u32,
-    next: [u32; 16],
+// How the sessions and the readings came out.
+#[derive(Clone, Copy, Default)]
+pub struct Score {
     pub decided: u32,
     pub waiting: u32,
     // Sessions that decided otherwise than the honest boards, and deliveries that these answered differently.
@@ -30,86 +27,88 @@ pub struct Play<D: Digest, L: Seal> {
     pub fooled: u32,
 }
 
+#[derive(Drop)]
+pub struct Play<'a, D: Digest, L: Seal> {
+    pub rt: &'a HostRuntime,
+    pub cluster: Cluster<D, L>,
+    pub truth: Truth,
+    pub commits: u32,
+    next: [u32; 16],
+    pub score: Score,
+}
+
 // What became of a request.
 #[derive(Drop)]
 pub struct Posted {
     pub answers: Vec<Answer>,
-    pub decision: Decision,
+    pub ruling: Ruling,
 }
 
-impl<D: Digest + Copy, L: Seal + Copy> Play<D, L> {
+impl<'a, D: Digest + Copy, L: Seal + Copy> Play<'a, D, L> {
     pub fn new(
-        heap: Global,
-        f: u8,
-        ways: &[Way],
-        digest: D,
-        seal: L,
-    ) -> anyhow::Result<Play<D, L>> {
+        rt: &'a HostRuntime,
+        wish: &Wish,
+        suite: Suite<D, L>,
+    ) -> anyhow::Result<Play<'a, D, L>> {
+        let heap = rt.alloc();
         Ok(Play {
-            cluster: Cluster::new(heap, f, ways, digest, seal)?,
+            rt,
+            cluster: Cluster::new(heap, wish, suite)?,
             truth: Truth::new(heap),
             commits: 0,
             next: [1; 16],
-            decided: 0,
-            waiting: 0,
-            misled: 0,
-            apart: 0,
-            fooled: 0,
+            score: Score::default(),
         })
     }
 
     // What a client reads of some items from board 0.
     pub fn read(&self, items: &[u8]) -> anyhow::Result<Vec<ReadItem>> {
-        let mut reads = Vec::new(self.cluster.heap);
-        for item in items {
-            let told = sure(self.cluster.item(0, *item)?)?;
-            push(&mut reads, ReadItem::new(*item, told.version, told.digest))?;
-        }
-        Ok(reads)
+        let board = self.cluster.first()?;
+        items
+            .iter()
+            .map(|item| -> anyhow::Result<ReadItem> {
+                let told = sure(board.node.item(*item))?;
+                Ok(ReadItem::new(*item, told.version, told.digest))
+            })
+            .try_collect(self.cluster.heap)
     }
 
     // Writes a request under its client's tag.
     pub fn write(&self, plain: Unsealed<'_, '_, '_>, out: &mut [u8]) -> anyhow::Result<usize> {
-        sure(seal_request(&self.cluster.seal, plain, out))
+        sure(seal_request(&self.cluster.suite.seal, plain, out))
     }
 
     // Gives a request to every board, and its client's session the replies.
     pub fn post(&mut self, frame: &[u8], writes: &[WriteItem<'_>]) -> anyhow::Result<Posted> {
         let answers = self.cluster.deliver(frame)?;
         if !self.cluster.agree(answers.as_slice()) {
-            self.apart = self.apart.saturating_add(1);
+            one_more(&mut self.score.apart);
         }
-        let decision = self.cluster.decide(answers.as_slice())?;
-        self.note(decision.outcome, answers.first().copied(), writes)?;
-        Ok(Posted { answers, decision })
+        let ruling = self.cluster.decide(answers.as_slice())?;
+        let honest = answers.first().and_then(|answer| answer.decision());
+        match ruling.decision {
+            Some(decision) => self.note(decision, honest, writes)?,
+            None => one_more(&mut self.score.waiting),
+        }
+        Ok(Posted { answers, ruling })
     }
 
     // Notes what a session decided, and whether the honest boards had answered it.
     fn note(
         &mut self,
-        outcome: Outcome,
-        honest: Option<Answer>,
+        decision: Decision,
+        honest: Option<Decision>,
         writes: &[WriteItem<'_>],
-    ) -> anyhow::Result<()> {
-        let Outcome::Decided { verdict, version } = outcome else {
-            self.waiting = self.waiting.saturating_add(1);
-            return Ok(());
-        };
-        self.decided = self.decided.saturating_add(1);
-        match honest {
-            Some(answer) if answer.says(verdict, version) => {}
-            _ => self.misled = self.misled.saturating_add(1),
+    ) -> Result<(), AllocError> {
+        one_more(&mut self.score.decided);
+        if honest != Some(decision) {
+            one_more(&mut self.score.misled);
         }
-        if let Verdict::Commit = verdict {
+        if let Decision::Commit { version } = decision {
             self.commits = version;
-            self.note_writes(version, writes)?;
-        }
-        Ok(())
-    }
-
-    fn note_writes(&mut self, version: u32, writes: &[WriteItem<'_>]) -> Result<(), AllocError> {
-        for write in writes {
-            self.truth.note(version, write.item, write.value)?;
+            for write in writes {
+                self.truth.note(version, write)?;
+            }
         }
         Ok(())
     }
@@ -120,7 +119,7 @@ impl<D: Digest + Copy, L: Seal + Copy> Play<D, L> {
             return 0;
         };
         let number = *next;
-        *next = number.saturating_add(1);
+        one_more(next);
         number
     }
 

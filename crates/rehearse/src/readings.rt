@@ -1,8 +1,8 @@
 // The readings of the rehearsal: what every board tells, and three that are false in themselves.
 use crate::account::Why;
 use crate::play::Play;
-use crate::station::{PROOF, Told, all_held, ask, check_with, items_of, range};
-use crate::tools::push;
+use crate::station::{PROOF, Told, Versions};
+use crate::tools::{one_more, push};
 use crate::truth::Written;
 use digest::Digest;
 use seal::Seal;
@@ -11,104 +11,86 @@ use store::value::Value;
 // The items that are read from every board.
 pub const ITEMS: [u8; 3] = [5, 6, 7];
 
-impl<D: Digest + Copy, L: Seal + Copy> Play<D, L> {
-    // Counts a reading that was accepted and is not the state that the acceptance names.
-    fn weigh(&mut self, told: Told, shown: &[Written]) {
-        if let Told::Accepted(m) = told {
-            if !all_held(&self.truth, m, shown) {
-                self.fooled = self.fooled.saturating_add(1);
+impl<D: Digest + Copy, L: Seal + Copy> Play<'_, D, L> {
+    // Asks every board in turn, and counts the false readings that were accepted.
+    fn hear_all(&self) -> anyhow::Result<(Vec<Told>, u32)> {
+        let mut all = Vec::new(self.cluster.heap);
+        let mut fooled = 0;
+        for (board, seat) in self.cluster.seats.iter().enumerate() {
+            let (shown, told) = self.cluster.ask(seat, &ITEMS)?;
+            if told.is_false(&self.truth, shown.as_slice()) {
+                one_more(&mut fooled);
+            }
+            println!(self.rt; "   board {board}: {told}")?;
+            push(&mut all, told)?;
+        }
+        Ok((all, fooled))
+    }
+
+    pub fn ask_all(&mut self) -> anyhow::Result<Vec<Told>> {
+        println!(self.rt;
+            "8. A reader asks each board for items 5, 6 and 7 and for a proof of them."
+        )?;
+        let (all, fooled) = self.hear_all()?;
+        self.score.fooled = self.score.fooled.saturating_add(fooled);
+        Ok(all)
+    }
+
+    // Checks a made-up reading with board 0's proof of some versions.
+    fn try_reading(&mut self, shown: &[Written], versions: Versions) -> anyhow::Result<()> {
+        let told = self
+            .cluster
+            .check_with(self.cluster.first()?, shown, versions)?;
+        if told.is_false(&self.truth, shown) {
+            one_more(&mut self.score.fooled);
+        }
+        println!(self.rt; "   {told}")?;
+        Ok(())
+    }
+
+    // Item 9 as it was one commit before it was last written, beside item 5 as it is.
+    pub fn mixed(&mut self) -> anyhow::Result<()> {
+        println!(self.rt; "   Item 5 as it is, with item 9 as it was one commit before its last:")?;
+        let mut shown = self.cluster.read(&[5])?;
+        if let Some(last) = self.truth.left(u32::MAX, 9) {
+            if let Some(before) = self.truth.left(last.version.saturating_sub(1), 9) {
+                push(&mut shown, before)?;
             }
         }
+        self.try_reading(shown.as_slice(), Versions::of(shown.as_slice()))
     }
-}
 
-// Asks every board in turn.
-pub fn ask_all<D: Digest + Copy, L: Seal + Copy>(
-    rt: &HostRuntime,
-    play: &mut Play<D, L>,
-) -> anyhow::Result<Vec<Told>> {
-    println!(rt; "8. A reader asks each board for items 5, 6 and 7 and for a proof of them.")?;
-    let mut all = Vec::new(play.cluster.heap);
-    for board in 0..play.cluster.seats.len() {
-        let (shown, told) = ask(&play.cluster, board, &ITEMS)?;
-        play.weigh(told, shown.as_slice());
-        println!(rt; "   board {board}: {told}")?;
-        push(&mut all, told)?;
-    }
-    Ok(all)
-}
-
-// Checks a made-up reading with board 0's proof.
-fn try_reading<D: Digest + Copy, L: Seal + Copy>(
-    rt: &HostRuntime,
-    play: &mut Play<D, L>,
-    shown: &[Written],
-) -> anyhow::Result<()> {
-    let (low, high) = range(shown);
-    let told = check_with(&play.cluster, 0, shown, low, high)?;
-    play.weigh(told, shown);
-    println!(rt; "   {told}")?;
-    Ok(())
-}
-
-// Item 9 as it was one commit before it was last written, beside item 5 as it is.
-pub fn mixed<D: Digest + Copy, L: Seal + Copy>(
-    rt: &HostRuntime,
-    play: &mut Play<D, L>,
-) -> anyhow::Result<()> {
-    println!(rt; "   Item 5 as it is, with item 9 as it was one commit before its last:")?;
-    let (mut shown, _) = items_of(&play.cluster, 0, &[5])?;
-    let nine = play.truth.left(u32::MAX, 9);
-    if let Some(last) = nine {
-        if let Some(before) = play.truth.left(last.version.saturating_sub(1), 9) {
-            push(&mut shown, before)?;
-        }
-    }
-    try_reading(rt, play, shown.as_slice())
-}
-
-// A value that was changed on the way to the reader.
-pub fn altered<D: Digest + Copy, L: Seal + Copy>(
-    rt: &HostRuntime,
-    play: &mut Play<D, L>,
-) -> anyhow::Result<()> {
-    println!(rt; "   Items 5, 6 and 7 of board 0, item 5's value changed on the way:")?;
-    let (mut shown, _) = items_of(&play.cluster, 0, &ITEMS)?;
-    if let Some(five) = shown.first_mut() {
-        if let Some(value) = Value::new(b"rate 21") {
+    // A value that was changed on the way to the reader.
+    pub fn altered(&mut self) -> anyhow::Result<()> {
+        println!(self.rt; "   Items 5, 6 and 7 of board 0, item 5's value changed on the way:")?;
+        let mut shown = self.cluster.read(&ITEMS)?;
+        if let (Some(five), Some(value)) = (shown.first_mut(), Value::new(b"rate 21")) {
             five.value = value;
         }
+        self.try_reading(shown.as_slice(), Versions::of(shown.as_slice()))
     }
-    try_reading(rt, play, shown.as_slice())
-}
 
-// A proof that does not reach as far as the reading.
-pub fn short_proof<D: Digest + Copy, L: Seal + Copy>(
-    rt: &HostRuntime,
-    play: &mut Play<D, L>,
-) -> anyhow::Result<()> {
-    println!(rt; "   Items 5, 6 and 7 of board 0, with a proof of the lowest version only:")?;
-    let (shown, _) = items_of(&play.cluster, 0, &ITEMS)?;
-    let (low, _) = range(shown.as_slice());
-    let told = check_with(&play.cluster, 0, shown.as_slice(), low, low)?;
-    play.weigh(told, shown.as_slice());
-    println!(rt; "   {told}")?;
-    Ok(())
-}
+    // A proof that does not reach as far as the reading.
+    pub fn short_proof(&mut self) -> anyhow::Result<()> {
+        println!(self.rt;
+            "   Items 5, 6 and 7 of board 0, with a proof of the lowest version only:"
+        )?;
+        let shown = self.cluster.read(&ITEMS)?;
+        let Versions { low, .. } = Versions::of(shown.as_slice());
+        self.try_reading(shown.as_slice(), Versions { low, high: low })
+    }
 
-// A version that every honest board has evicted.
-pub fn evicted<D: Digest + Copy, L: Seal + Copy>(
-    rt: &HostRuntime,
-    play: &Play<D, L>,
-) -> anyhow::Result<()> {
-    println!(rt; "   A proof of version 1 is asked of board 0:")?;
-    let mut out = [0; PROOF];
-    match play.cluster.proof(0, 1, 1, &mut out)? {
-        Ok(n) => println!(rt; "   a proof of {n} bytes")?,
-        Err(fault) => {
-            let why = Why(fault);
-            println!(rt; "   refused: {why}")?
+    // A version that every honest board has evicted.
+    pub fn evicted(&self) -> anyhow::Result<()> {
+        println!(self.rt; "   A proof of version 1 is asked of board 0:")?;
+        let mut out = [0; PROOF];
+        match self.cluster.first()?.node.proof(1, 1, &mut out) {
+            Ok(n) => println!(self.rt; "   a proof of {n} bytes")?,
+            Err(fault) => {
+                let why = Why(fault);
+                println!(self.rt; "   refused: {why}")?
+            }
         }
+        Ok(())
     }
-    Ok(())
 }

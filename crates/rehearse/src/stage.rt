@@ -1,40 +1,31 @@
 // The stage: a cluster is set up as wished, and the piece is played on it.
+use crate::node::Suite;
 use crate::play::Play;
 use crate::ways::Way;
 use crate::words::{DigestName, SealName, Wish};
-use crate::{damaged, long, readings, script, table};
 use digest::{Digest, Fnv, Sha256};
+use sample_keys::sample_keys;
 use seal::Seal;
 use seal::mac::HmacSeal;
 use seal::sip::SipSeal;
 
-// The keys of the rehearsal: every byte of a signer's key is its number.
-fn keys() -> [[u8; 32]; 32] {
-    let mut all = [[0; 32]; 32];
-    for signer in 0..32u8 {
-        all[signer as usize] = [signer; 32];
+impl<D: Digest + Copy, L: Seal + Copy> Play<'_, D, L> {
+    // The acts in order.
+    fn acts(&mut self) -> anyhow::Result<()> {
+        self.first_commits()?;
+        self.traps()?;
+        self.old_and_fresh()?;
+        self.changed_or_not_open()?;
+        self.used_twice()?;
+        self.shares()?;
+        let told = self.ask_all()?;
+        self.mixed()?;
+        self.altered()?;
+        self.short_proof()?;
+        self.evicted()?;
+        self.say_table(told.as_slice())?;
+        self.conclude()
     }
-    all
-}
-
-// The acts in order.
-fn play_acts<D: Digest + Copy, L: Seal + Copy>(
-    rt: &HostRuntime,
-    play: &mut Play<D, L>,
-) -> anyhow::Result<()> {
-    script::first_commits(rt, play)?;
-    script::traps(rt, play)?;
-    script::old_and_fresh(rt, play)?;
-    damaged::changed_or_not_open(rt, play)?;
-    damaged::used_twice(rt, play)?;
-    script::shares(rt, play)?;
-    let told = readings::ask_all(rt, play)?;
-    readings::mixed(rt, play)?;
-    readings::altered(rt, play)?;
-    readings::short_proof(rt, play)?;
-    readings::evicted(rt, play)?;
-    table::say_table(rt, play, told.as_slice())?;
-    table::conclude(rt, play)
 }
 
 // What is played: the acts, or a run of so many commits.
@@ -48,13 +39,13 @@ fn perform<D: Digest + Copy, L: Seal + Copy>(
     rt: &HostRuntime,
     wish: &Wish,
     piece: Piece,
-    digest: D,
-    seal: L,
+    suite: Suite<D, L>,
 ) -> anyhow::Result<()> {
-    let mut play = Play::new(rt.alloc(), wish.f, wish.ways.as_slice(), digest, seal)?;
+    let mut play = Play::new(rt, wish, suite)?;
+    // A value and no closure: no closure takes a play of every digest and seal.
     match piece {
-        Piece::Acts => play_acts(rt, &mut play),
-        Piece::Run(runs) => long::long_run(rt, &mut play, runs),
+        Piece::Acts => play.acts(),
+        Piece::Run(commits) => play.long_run(commits),
     }
 }
 
@@ -65,32 +56,38 @@ fn perform_with<D: Digest + Copy>(
     digest: D,
 ) -> anyhow::Result<()> {
     match wish.seal {
-        SealName::Sip => perform(rt, wish, piece, digest, SipSeal::new(keys())),
-        SealName::Hmac => perform(rt, wish, piece, digest, HmacSeal::new(keys())),
+        SealName::Sip => {
+            let seal = SipSeal::new(sample_keys());
+            perform(rt, wish, piece, Suite { digest, seal })
+        }
+        SealName::Hmac => {
+            let seal = HmacSeal::new(sample_keys());
+            perform(rt, wish, piece, Suite { digest, seal })
+        }
     }
 }
 
 // Says who takes part, and plays the piece.
 pub fn start(rt: &HostRuntime, wish: &Wish, piece: Piece) -> anyhow::Result<()> {
-    let f = wish.f;
-    let n = u32::from(f) * 3 + 1;
-    let digest = wish.digest.name();
-    let seal = wish.seal.name();
+    let Wish {
+        f,
+        digest,
+        seal,
+        ..
+    } = wish;
+    let n = wish.boards();
     println!(rt; "{n} boards, f = {f}, digest {digest}, seal {seal}")?;
     say_wrong(rt, n, wish.ways.as_slice())?;
-    match wish.digest {
+    match digest {
         DigestName::Fnv => perform_with(rt, wish, piece, Fnv),
         DigestName::Sha256 => perform_with(rt, wish, piece, Sha256),
     }
 }
 
-fn say_wrong(rt: &HostRuntime, n: u32, ways: &[Way]) -> anyhow::Result<()> {
-    let mut board = n;
-    for way in ways {
-        board = board.saturating_sub(1);
-        let name = way.name();
+fn say_wrong(rt: &HostRuntime, n: u8, ways: &[Way]) -> anyhow::Result<()> {
+    for (board, way) in (0..n).rev().zip(ways) {
         let does = way.does();
-        println!(rt; "board {board} is wrong: {name}, it {does}")?;
+        println!(rt; "board {board} is wrong: {way}, it {does}")?;
     }
     if ways.is_empty() {
         println!(rt; "all boards are honest")?;

@@ -1,14 +1,13 @@
-// Small helpers of the program: refusals and full memory as errors, and the front of a buffer.
-use anyhow::anyhow;
+// Small parts of the program: refusals and full memory as errors, a count, and the front of a buffer.
+use anyhow::Context;
 use fault::Fault;
 use std::alloc::AllocError;
 
 // A refusal as an error of the program.
 pub fn sure<T>(answer: Result<T, Fault>) -> anyhow::Result<T> {
-    match answer {
-        Ok(x) => Ok(x),
-        Err(_) => Err(anyhow!("a call of the rehearsal's own was refused")),
-    }
+    answer
+        .ok()
+        .context("a call of the rehearsal's own was refused")
 }
 
 pub fn push<T: Drop>(all: &mut Vec<T>, x: T) -> Result<(), AllocError> {
@@ -16,10 +15,12 @@ pub fn push<T: Drop>(all: &mut Vec<T>, x: T) -> Result<(), AllocError> {
     Ok(())
 }
 
+// Counts one more.
+pub fn one_more(count: &mut u32) {
+    *count = count.saturating_add(1);
+}
+
 // A part of a buffer from its front.
 pub fn front(buffer: &[u8], n: usize) -> &[u8] {
-    if n > buffer.len() {
-        return buffer;
-    }
-    &buffer[0..n]
+    &buffer[..n.min(buffer.len())]
 }

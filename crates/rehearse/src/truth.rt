@@ -1,4 +1,5 @@
 // What the sessions decided, from which the state after any count of commits is told.
+use request::item::WriteItem;
 use std::alloc::{AllocError, Global};
 use store::value::Value;
 
@@ -22,11 +23,11 @@ impl Truth {
         }
     }
 
-    pub fn note(&mut self, version: u32, item: u8, bytes: &[u8]) -> Result<(), AllocError> {
-        if let Some(value) = Value::new(bytes) {
+    pub fn note(&mut self, version: u32, write: &WriteItem<'_>) -> Result<(), AllocError> {
+        if let Some(value) = Value::new(write.value) {
             self.writes.push(Written {
                 version,
-                item,
+                item: write.item,
                 value,
             })?;
         }
@@ -35,13 +36,11 @@ impl Truth {
 
     // The last write of an item among the first k commits.
     pub fn left(&self, k: u32, item: u8) -> Option<Written> {
-        let mut last = None;
-        for w in self.writes.as_slice() {
-            if w.item == item && w.version <= k {
-                last = Some(*w);
-            }
-        }
-        last
+        self.writes
+            .iter()
+            .rev()
+            .find(|w| w.item == item && w.version <= k)
+            .copied()
     }
 
     // Whether an item had this version and value after k commits.
@@ -50,5 +49,12 @@ impl Truth {
             Some(w) => w.version == version && w.value.as_slice() == bytes,
             None => version == 0 && bytes.is_empty(),
         }
+    }
+
+    // Whether every item of a reading stood so after k commits.
+    pub fn all_held(&self, k: u32, shown: &[Written]) -> bool {
+        shown
+            .iter()
+            .all(|w| self.held(k, w.item, w.version, w.value.as_slice()))
     }
 }

@@ -1,4 +1,7 @@
 // The ways in which a board of the rehearsal can be wrong, each by its name.
+use anyhow::Context;
+use std::fmt;
+use std::str::FromStr;
 
 #[derive(Clone, Copy)]
 pub enum Way {
@@ -32,7 +35,7 @@ pub const WAYS: [Way; 12] = [
 ];
 
 impl Way {
-    pub fn name(self) -> &'static str {
+    fn name(self) -> &'static str {
         match self {
             Way::InstallsEarly => "installs-early",
             Way::AlwaysAborts => "always-aborts",
@@ -68,12 +71,18 @@ impl Way {
     }
 }
 
-// The way of a name.
-pub fn find_way(name: &str) -> Option<Way> {
-    for way in &WAYS {
-        if way.name() == name {
-            return Some(*way);
-        }
+impl fmt::Display for Way {
+    fn fmt<W: fmt::Write>(&self, f: &mut fmt::Formatter<W>) -> fmt::Result {
+        f.pad(self.name())
     }
-    None
+}
+
+impl FromStr for Way {
+    type Err = anyhow::Error;
+
+    fn from_str(word: &str) -> anyhow::Result<Way> {
+        WAYS.iter().copied().find(|way| way.name() == word).context(
+            "a way to be wrong is one of those that `rehearse ways` lists",
+        )
+    }
 }

@@ -1,5 +1,6 @@
 // A wrong board: an honest board inside, whose answers are bent in the way chosen.
 // Where it judges otherwise, the board inside is handed another request, sealed anew, so that all it keeps follows its wrong judgement.
+use crate::node::Suite;
 use crate::ways::Way;
 use board::size::Place;
 use board::state::{Board, Mark};
@@ -47,43 +48,32 @@ pub struct Wrong<D: Digest, L: Seal> {
     pub f: u8,
     pub inner: Board<Table, D, L>,
     pub fresh: Board<Table, D, L>,
-    pub digest: D,
-    pub seal: L,
+    pub suite: Suite<D, L>,
     pub rows: Vec<Row>,
 }
 
 impl<D: Digest + Copy, L: Seal + Copy> Wrong<D, L> {
-    pub fn new(heap: Global, place: Place, way: Way, digest: D, seal: L) -> Wrong<D, L> {
+    pub fn new(heap: Global, place: Place, way: Way, suite: Suite<D, L>) -> Wrong<D, L> {
         Wrong {
             way,
             f: place.faults(),
-            inner: Board::new(place, (), digest, seal),
-            fresh: Board::new(place, (), digest, seal),
-            digest,
-            seal,
+            inner: Board::new(place, (), suite.digest, suite.seal),
+            fresh: Board::new(place, (), suite.digest, suite.seal),
+            suite,
             rows: Vec::new(heap),
         }
     }
 
     // The first row of an item.
     pub fn first_row(&self, item: u8) -> Option<Record> {
-        for row in self.rows.as_slice() {
-            if row.item == item {
-                return Some(row.record);
-            }
-        }
-        None
+        let row = self.rows.iter().find(|row| row.item == item)?;
+        Some(row.record)
     }
 
     // The last row of an item.
     pub fn last_row(&self, item: u8) -> Option<Record> {
-        let mut last = None;
-        for row in self.rows.as_slice() {
-            if row.item == item {
-                last = Some(row.record);
-            }
-        }
-        last
+        let row = self.rows.iter().rev().find(|row| row.item == item)?;
+        Some(row.record)
     }
 
     // An item with a value that nobody wrote.
@@ -98,10 +88,11 @@ impl<D: Digest + Copy, L: Seal + Copy> Wrong<D, L> {
         Ok(Record {
             version: told.version,
             value,
-            digest: self.digest.digest(&[], FORGED_VALUE)?,
+            digest: self.suite.digest.digest(&[], FORGED_VALUE)?,
         })
     }
 
+    // One match for each call, and no object for each way: a way bends a few calls of one board, whose rows they share.
     pub fn item(&self, item: u8) -> Result<Record, Fault> {
         match self.way {
             Way::RefusesAll => Err(REFUSED),

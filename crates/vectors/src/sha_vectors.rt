@@ -1,57 +1,33 @@
 // SHA-256: the messages that NIST publishes, and every length around one and two blocks.
-use crate::data::{Tally, fields, pattern, same, unhex};
+use crate::data::{Case, Tally, cut, each_line, too_long};
 use sha256::{bytes, follows_standard, hash};
 use std::alloc::{AllocError, Global};
 
-// Whether the message cut at `at` has the expected digest.
-fn cut(message: &[u8], at: usize, expected: &[u8]) -> bool {
-    let at = at.min(message.len());
-    match hash(&message[0..at], &message[at..message.len()]) {
-        Some(words) => same(&bytes(words), expected),
+const CUTS: [usize; 12] = [0, 1, 4, 55, 56, 63, 64, 65, 127, 128, 129, 65535];
+
+// Whether a message cut at `at` has the expected digest.
+fn has_digest(case: &Case, at: usize) -> bool {
+    let (head, rest) = cut(case.message.as_slice(), at);
+    match hash(head, rest) {
+        Some(words) => bytes(words).as_slice() == case.expected.as_slice(),
         None => false,
     }
 }
 
 // Whether it has it in one part and in two, however it is cut.
-fn all_cuts(message: &[u8], expected: &[u8]) -> bool {
-    let mut right = true;
-    for at in [0, 1, 4, 55, 56, 63, 64, 65, 127, 128, 129, 65535] {
-        right &= cut(message, at, expected);
-    }
-    right
+fn at_all_cuts(case: &Case) -> bool {
+    CUTS.iter().all(|at| has_digest(case, *at))
 }
 
 pub fn nist(heap: Global, text: &str) -> anyhow::Result<Tally> {
     follows_standard();
-    let mut tally = Tally::new();
-    for line in text.lines() {
-        let (message, digest) = fields(line)?;
-        let message = unhex(heap, message)?;
-        let expected = unhex(heap, digest)?;
-        tally.count(all_cuts(message.as_slice(), expected.as_slice()));
-    }
-    Ok(tally)
+    each_line(text, |line| Ok(at_all_cuts(&Case::given(heap, line)?)))
 }
 
 pub fn lengths(heap: Global, text: &str) -> anyhow::Result<Tally> {
-    let mut tally = Tally::new();
-    for line in text.lines() {
-        let (length, digest) = fields(line)?;
-        let message = pattern(heap, length.parse::<usize>()?)?;
-        let expected = unhex(heap, digest)?;
-        tally.count(all_cuts(message.as_slice(), expected.as_slice()));
-    }
-    Ok(tally)
+    each_line(text, |line| Ok(at_all_cuts(&Case::of_length(heap, line)?)))
 }
 
-// One byte above the longest message is refused, however it is cut.
 pub fn refused(heap: Global) -> Result<Tally, AllocError> {
-    let long = pattern(heap, 65536)?;
-    let mut tally = Tally::new();
-    for at in [0, 1, 64, 65535, 65536] {
-        let m = long.as_slice();
-        let at = at.min(m.len());
-        tally.count(hash(&m[0..at], &m[at..m.len()]).is_none());
-    }
-    Ok(tally)
+    too_long(heap, |head, rest| hash(head, rest).is_none())
 }

@@ -21,46 +21,23 @@ impl<D: Digest + Copy, L: Seal + Copy> Wrong<D, L> {
 
     // Whether a commit wrote the digest to the item, whatever its version.
     fn ever_written(&self, read: Read<'_>) -> bool {
-        for row in self.rows.as_slice() {
-            if row.item == read.item && row.record.digest.as_slice() == read.digest {
-                return true;
-            }
-        }
-        false
+        self.rows.iter().any(|row| row.item == read.item
+            && row.record.digest.as_slice() == read.digest)
     }
 
     // Whether an abort left another version of the item behind.
     fn is_spoilt(&self, read: Read<'_>) -> bool {
-        match self.last_row(read.item) {
-            Some(record) => record.version != read.version,
-            None => false,
-        }
-    }
-
-    // Whether one of the reads is as the way looks for.
-    fn any_read(&self, request: Request<'_>) -> bool {
-        for i in 0..request.plan.top.reads as usize {
-            if let Some(read) = request.read(i) {
-                let found = match self.way {
-                    Way::WindowOnly => self.is_old(read),
-                    Way::InstallsEarly => self.is_spoilt(read),
-                    Way::AnyEntry => !self.ever_written(read),
-                    _ => false,
-                };
-                if found {
-                    return true;
-                }
-            }
-        }
-        false
+        self.last_row(read.item)
+            .is_some_and(|record| record.version != read.version)
     }
 
     pub fn opinion(&self, request: Request<'_>) -> Opinion {
-        let found = self.any_read(request);
+        let mut reads = request.reads();
         match self.way {
             Way::AlwaysAborts => Opinion::Fails,
-            Way::WindowOnly | Way::InstallsEarly if found => Opinion::Fails,
-            Way::AnyEntry if !found => Opinion::Passes,
+            Way::WindowOnly if reads.any(|read| self.is_old(read)) => Opinion::Fails,
+            Way::InstallsEarly if reads.any(|read| self.is_spoilt(read)) => Opinion::Fails,
+            Way::AnyEntry if reads.all(|read| self.ever_written(read)) => Opinion::Passes,
             _ => Opinion::Its,
         }
     }

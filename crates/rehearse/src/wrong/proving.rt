@@ -13,16 +13,10 @@ const LONGEST: usize = 11813;
 
 const PAIR: usize = 17;
 
-// The most pairs and writes of an entry.
-const MOST: u8 = 8;
-
 // Puts tags that nobody made.
-fn invent_tags(part: SealedPart<'_>, pairs_at: usize, frame: &mut [u8]) {
-    for k in 0..MOST {
-        if part.pair(k).is_some() {
-            let at = pairs_at.saturating_add(PAIR * usize::from(k));
-            put(frame, at.saturating_add(1), &[165; 16]);
-        }
+fn invent_tags(part: SealedPart<'_>, frame: &mut [u8]) {
+    for pair in part.pairs() {
+        put(frame, pair.place as usize, &[165; 16]);
     }
 }
 
@@ -35,13 +29,10 @@ fn repeat_pair(part: SealedPart<'_>, pairs_at: usize, frame: &mut [u8]) {
 
 // Puts another digest for the item that is forged.
 fn forge_digest(part: SealedPart<'_>, digest: &[u8], frame: &mut [u8]) {
-    for k in 0..MOST {
-        if let Some(write) = part.item(k) {
-            if write.item == FORGED_ITEM {
-                let at = (part.place as usize).saturating_add(4 + 33 * usize::from(k));
-                put(frame, at, digest);
-            }
-        }
+    let forged = part.items().position(|write| write.item == FORGED_ITEM);
+    if let Some(k) = forged {
+        let at = (part.place as usize).saturating_add(k.saturating_mul(33).saturating_add(4));
+        put(frame, at, digest);
     }
 }
 
@@ -49,10 +40,10 @@ impl<D: Digest + Copy, L: Seal + Copy> Wrong<D, L> {
     fn bend_entry(&self, part: SealedPart<'_>, frame: &mut [u8]) {
         let pairs_at = (part.place as usize).saturating_add(part.body.len());
         match self.way {
-            Way::InventsShares => invent_tags(part, pairs_at, frame),
+            Way::InventsShares => invent_tags(part, frame),
             Way::CountsTwice => repeat_pair(part, pairs_at, frame),
             Way::Forges => {
-                if let Ok(digest) = self.digest.digest(&[], FORGED_VALUE) {
+                if let Ok(digest) = self.suite.digest.digest(&[], FORGED_VALUE) {
                     forge_digest(part, &digest, frame);
                 }
             }
@@ -65,10 +56,8 @@ impl<D: Digest + Copy, L: Seal + Copy> Wrong<D, L> {
         let Ok(proof) = read_proof(honest, self.f) else {
             return;
         };
-        for i in 0..proof.len() {
-            if let Some(part) = proof.entry(i) {
-                self.bend_entry(part, frame);
-            }
+        for part in proof.entries() {
+            self.bend_entry(part, frame);
         }
     }
 
@@ -87,11 +76,7 @@ impl<D: Digest + Copy, L: Seal + Copy> Wrong<D, L> {
         match self.way {
             Way::RefusesAll => Err(REFUSED),
             Way::EvictsEarly => Err(EVICTED),
-            Way::NeverSealed => Err(Fault {
-                cause: Cause::Unsealed,
-                layer: Layer::Board,
-                place: low.max(1),
-            }),
+            Way::NeverSealed => Err(Cause::Unsealed.at(Layer::Board, low.max(1))),
             _ => self.bent_proof(low, high, out),
         }
     }
