@@ -1,13 +1,13 @@
 -- The library's digits are the digits of lines.
-use Rattle.std.proofs.Common.{◌≡◌, ℕ, zero, suc, ◌+◌, ◌*◌, ◌/◌, ◌%◌, ◌<◌, ◌==◌, Bool, true, ◌&&◌, inl, inr, List, [], ◌∷◌, length, slice_index, Option, Some, None, Ok, Err, Result, refl, sym, ap, ◌∙◌, arith}
+use Rattle.std.proofs.Common.{◌≡◌, ℕ, ◌+◌, ◌*◌, ◌/◌, ◌%◌, inl, inr, List, [], ◌∷◌, length, Option, Some, None, Ok, Err, Result, refl, sym, ap, ◌∙◌, arith}
 use Rattle.std.specs.Prelude.{MatchResult}
 use Rattle.std.specs.Result.{result_ok}
-use Rattle.std.proofs.lemmas.Bool.{and_parts, cases_eq, cases_lt, eqb-true}
-use Rattle.hex.specs.Hex.{IsBytes, decode_pairs, decode_sized, digit_or_error, encode_lower, encode_with, hex_digit_value, lower_digits, ◌>>=◌}
+use Rattle.std.proofs.lemmas.Bool.{cases_eq}
+use Rattle.hex.specs.Hex.{decode_pairs, decode_sized, digit_or_error, hex_digit_value, ◌>>=◌}
 use Rattle.hex.proofs.Pairs.{decode_sized-pairs}
 use Rattle.hex.specs.declared.error.FromHexError.{FromHexError}
 use Rattle.hex.specs.declared.error.FromHexError.TheVariants.{OddLength}
-use Rattle.lines.specs.Hex.{digit_of, digit_value, hex, paired, unhex}
+use Rattle.lines.specs.Hex.{digit_value, hex, paired, unhex}
 
 -- what was decoded, if anything
 abbrev pub decoded : Result (List ℕ) FromHexError → Option (List ℕ)
@@ -79,36 +79,6 @@ unhex_ok digits n r buffer u half told ok = sym (decoded-sized digits n half) �
 pub unhex_err : (digits : List ℕ) (n : ℕ) (r : Result (Unit {0}) FromHexError) (buffer : List ℕ)
     → n ≡ length digits / 2 → Sized (decode_sized digits n) r buffer → result_ok r ≡ None → unhex digits ≡ None
 unhex_err digits n r buffer half told err = sym (decoded-sized digits n half) ∙ told_err (decode_sized digits n) r buffer told err
-
--- the first n digits of the library's table are those of lines
-abbrev same_below : ℕ → Bool
-same_below zero = true
-same_below (suc n) = (slice_index lower_digits n == digit_of n) && same_below n
-
-same_below-at : (n v : ℕ) → same_below n ≡ true → v < n → slice_index lower_digits v ≡ digit_of v
-same_below-at zero v same lt = absurd (omega arith)
-same_below-at (suc n) v same lt =
-    let parts = and_parts (slice_index lower_digits n == digit_of n) (same_below n) same in
-    elim (cases_lt v n) [
-      | inl below ↦ same_below-at n v parts.1 below
-      | inr top ↦
-          let last : v ≡ n = omega arith in
-          rw last (eqb-true _ _ parts.0)
-    ]
-
-same_digit : (v : ℕ) → v < 16 → slice_index lower_digits v ≡ digit_of v
-same_digit v lt = same_below-at 16 v refl lt
-
-pub encoded : (bytes : List ℕ) → IsBytes bytes → encode_lower bytes ≡ hex bytes
-unfolding encode_with
-encoded [] fit = refl
-encoded (b ∷ bytes) fit =
-    let byte : b < 256 = fit 0 in
-    let high : b / 16 < 16 = omega arith in
-    let low : b % 16 < 16 = omega arith in
-    ap (λ d. d ∷ slice_index lower_digits (b % 16) ∷ encode_lower bytes) (same_digit (b / 16) high)
-    ∙ ap (λ d. digit_of (b / 16) ∷ d ∷ encode_lower bytes) (same_digit (b % 16) low)
-    ∙ ap (λ ds. digit_of (b / 16) ∷ digit_of (b % 16) ∷ ds) (encoded bytes (λ i. fit (suc i)))
 
 -- two digits for each byte
 pub length-hex : (bs : List ℕ) → length (hex bs) ≡ 2 * length bs

@@ -1,2 +1,3 @@
 mod Digits
+mod Encoding
 pub mod Calls

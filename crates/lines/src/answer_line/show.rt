@@ -1,17 +1,28 @@
 // How the digits of an answer are shown.
-ghost use Rattle.std.specs.Prelude.{◌≡◌, ◌*◌, ◌≤◌, ◌++◌, [], length, drop};
-ghost use Rattle.lines.specs.Hex.{hex};
+ghost use Rattle.std.specs.Prelude.{◌≡◌, ◌*◌, ◌<◌, ◌≤◌, ◌++◌, [], length, drop};
+ghost use Rattle.lines.specs.Hex.{digit_of, hex};
 ghost use Rattle.lines.specs.Shown.{digits_of};
 
 use super::AnswerLine;
+
+// A digit of lower case for a value below 16.
+fn digit_of(v: u8) -> u8
+    requires { v < 16 }
+    ensures { result ≡ digit_of v }
+{
+    if v < 10 { b'0' + v } else { 87 + v }
+}
 
 // The digits of the bytes go to the front of `out`, which has room for them.
 fn encode(bytes: &[u8], out: &mut [u8])
     requires { 2 * length bytes.now ≤ length out.old }
     ensures { out.new ≡ hex bytes.now ++ drop (2 * length bytes.now) out.old }
 {
-    if hex::encode_to_slice(bytes, &mut out[..2 * bytes.len()]).is_err() {
-        unreachable()
+    // By index, with a digit of its own: the library's encoder takes twice the instructions for a proof of 32 entries.
+    for i in 0..bytes.len() {
+        let b = bytes[i];
+        out[2 * i] = digit_of(b / 16);
+        out[2 * i + 1] = digit_of(b % 16);
     }
 }
 

@@ -1,14 +1,19 @@
-use Rattle.std.proofs.Common.{◌≡◌, false, ◌*◌, ◌++◌, length, drop, Ok, Err, Result, OnOk, ap, ◌∙◌, sym}
-use Rattle.std.specs.Result.{is_err}
-use Rattle.hex.specs.declared.error.FromHexError.{FromHexError}
-use Rattle.lines.proofs.Digits.{encoded}
+use Rattle.std.proofs.Common.{◌≡◌, ◌*◌, ◌++◌, length, drop, ap, ◌∙◌, arith, length-take}
+use Rattle.std.proofs.lemmas.List.{take_all}
+use Rattle.lines.specs.Hex.{hex}
+use Rattle.lines.proofs.Encoding.{encode_more}
 use Rattle.lines.proofs.answer_line.show.encode.Goals as goal
 
-from_ok : {P : Type 0} (r : Result (Unit {0}) FromHexError) → is_err r ≡ false → OnOk r P → P
-from_ok (Ok u) ok p = p
-from_ok (Err e) ok p = cc ok
+pub loop-i-preserved : goal.loop-i-preserved
+loop-i-preserved c =
+    let a = c.digit_of.ensures in
+    let b = c.digit_of-in-loop-i.ensures in
+    encode_more c.args.bytes.now c.loop-i.out c.args.out.now c.loop-i.i c.digit_of.result c.digit_of-in-loop-i.result
+    (omega arith) c.requires c.loop-i.invariant (simp length-take (omega arith)) (cc)
 
 pub returns : goal.returns
 returns c =
-    let written = from_ok c.encode_to_slice.result (sym c.if-is_err.ensures.value) c.encode_to_slice.ensures.written in
-    ap (λ ds. ds ++ drop (2 * length c.args.bytes.now) c.args.out.now) (written ∙ encoded c.args.bytes.now (λ i. (c.type_inv.bytes i).fits))
+    let end : c.loop-i.i ≡ length c.args.bytes.now = omega arith in
+    c.loop-i.invariant
+    ∙ ap (λ xs. hex xs ++ drop (2 * c.loop-i.i) c.args.out.now) (take_all c.loop-i.i c.args.bytes.now (omega arith))
+    ∙ ap (λ n. hex c.args.bytes.now ++ drop (2 * n) c.args.out.now) end
