@@ -18,7 +18,7 @@ fn encode(bytes: &[u8], out: &mut [u8])
     requires { 2 * length bytes.now ≤ length out.old }
     ensures { out.new ≡ hex bytes.now ++ drop (2 * length bytes.now) out.old }
 {
-    // By index, with a digit of its own: the library's encoder takes twice the instructions for a proof of 32 entries.
+    // By index, with a digit of its own: with the library's encoder a proof of 32 entries takes a third more instructions.
     for i in 0..bytes.len() {
         let b = bytes[i];
         out[2 * i] = digit_of(b / 16);
