@@ -1,6 +1,7 @@
 // What a bank is made of.
 ghost use Rattle.std.specs.Prelude.{◌≡◌, length};
 
+pub use answer::mark::Mark;
 use digest::Digest;
 use store::Store;
 
@@ -15,11 +16,4 @@ pub struct Bank<S: Store, D: Digest> {
     chain: [u8; 32],
     ghost start: { count ≡ 0 },
     ghost whole: { length chain ≡ 32 },
-}
-
-// The count of commits and the chain, by which boards are compared.
-#[derive(Clone, Copy, PartialEq, Eq, Debug)]
-pub struct Mark {
-    pub count: u32,
-    pub chain: [u8; 32],
 }

@@ -1,8 +1,13 @@
 // What a line of the input says.
+ghost use Rattle.std.specs.Prelude.{ℕ};
+ghost use Rattle.bankaudit.specs.Said.{Within};
+
 use board::state::Mark;
 use lines::call::{Call, LONGEST_FRAME, line_call};
+use lines::hex::decode;
 use std::str::from_utf8;
 
+// A request's bytes lie in the room that it was read to, by their lifetime.
 #[derive(Clone, Copy)]
 pub(crate) enum Line<'a> {
     Passed,
@@ -13,8 +18,8 @@ pub(crate) enum Line<'a> {
 // The mark of an answer line to 07: 00, count, chain.
 fn mark_of(answer: &[u8]) -> Option<Mark> {
     let mut bytes = [0; 35];
-    hex::decode_to_slice(answer, &mut bytes).ok()?;
-    if bytes[0] != 0 {
+    let n = decode(answer, &mut bytes)?;
+    if n != 35 || bytes[0] != 0 {
         return None;
     }
     let mut chain = [0; 32];
@@ -23,8 +28,10 @@ fn mark_of(answer: &[u8]) -> Option<Mark> {
     Some(Mark { count, chain })
 }
 
-// A report, behind its first word: the board's number and the answer that it printed.
-fn read_report<'a>(rest: &str) -> Option<Line<'a>> {
+// A report, behind its first word: the board's number and the answer that it printed. It is never a request.
+fn read_report<'a>(rest: &str) -> Option<Line<'a>>
+    ensures { (room : ℕ) → Within result room }
+{
     let (number, answer) = rest.split_once(' ')?;
     let board = number.parse::<u8>().ok()?;
     Some(Line::Report(board, mark_of(answer.as_bytes())?))

@@ -11,7 +11,7 @@ use Rattle.history.specs.Events.{Effect}
 use Rattle.history.specs.Commits.{commits, kept, left, shown}
 use Rattle.history.specs.Tables.{Succeeds}
 use Rattle.history.proofs.ReadLaws.{shown-kept}
-use Rattle.bank.specs.Answers.{item_answer, shown_slot}
+use Rattle.answer.specs.Answers.{item_answer, shown_slot}
 
 pub item-answered : (digest : List ℕ → List ℕ) (tag : ℕ → List ℕ → List ℕ) (f own : ℕ) (es : List Effect) (holds : ℕ → Slot) (x : ℕ) (r : Result Slot Fault)
     → r ≡ item_answer digest holds x → ((y : ℕ) → y < 64 → holds y ≡ kept digest (left (commits es) y)) → ItemAnswers digest tag f own es x r

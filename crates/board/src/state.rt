@@ -3,7 +3,7 @@ ghost use Rattle.std.specs.Prelude.{◌≡◌, ◌≤◌, length};
 ghost use Rattle.octets.specs.Numbers.{limit};
 
 use crate::size::Place;
-pub use bank::state::Mark;
+pub use answer::mark::Mark;
 use numbers::clients::Clients;
 use window::ring::Window;
 

@@ -1,86 +1,70 @@
--- The library's digits are the digits of lines.
-use Rattle.std.proofs.Common.{◌≡◌, ℕ, ◌+◌, ◌*◌, ◌/◌, ◌%◌, inl, inr, List, [], ◌∷◌, length, Option, Some, None, Ok, Err, Result, refl, sym, ap, ◌∙◌, arith}
-use Rattle.std.specs.Prelude.{MatchResult}
-use Rattle.std.specs.Result.{result_ok}
-use Rattle.std.proofs.lemmas.Bool.{cases_eq}
-use Rattle.hex.specs.Hex.{decode_pairs, decode_sized, digit_or_error, hex_digit_value, ◌>>=◌}
-use Rattle.hex.proofs.Pairs.{decode_sized-pairs}
-use Rattle.hex.specs.declared.error.FromHexError.{FromHexError}
-use Rattle.hex.specs.declared.error.FromHexError.TheVariants.{OddLength}
-use Rattle.lines.specs.Hex.{digit_value, hex, paired, unhex}
-
--- what was decoded, if anything
-abbrev pub decoded : Result (List ℕ) FromHexError → Option (List ℕ)
-decoded (Ok bytes) = Some bytes
-decoded (Err e) = None
-
-same_value : (c : ℕ) → hex_digit_value c ≡ digit_value c
-same_value c = grind arith
-
-pair_decoded : (a b i : ℕ) (high low : Option ℕ) (rest : Result (List ℕ) FromHexError)
-    → decoded ((digit_or_error a i high >>= (λ h. digit_or_error b (i + 1) low >>= (λ l. Ok (h * 16 + l)))) >>= (λ byte. rest >>= (λ bytes. Ok (byte ∷ bytes))))
-    ≡ paired high low (decoded rest)
-pair_decoded a b i (Some h) (Some l) (Ok bytes) = refl
-pair_decoded a b i (Some h) (Some l) (Err e) = refl
-pair_decoded a b i (Some h) None rest = refl
-pair_decoded a b i None low rest = refl
-
-pub decoded-pairs : (i : ℕ) (digits : List ℕ) → decoded (decode_pairs i digits) ≡ unhex digits
-unfolding decode_pairs
-decoded-pairs i [] = refl
-decoded-pairs i (a ∷ []) = refl
-decoded-pairs i (a ∷ b ∷ rest) =
-    pair_decoded a b i (hex_digit_value a) (hex_digit_value b) (decode_pairs (i + 2) rest)
-    ∙ ap (λ h. paired h (hex_digit_value b) (decoded (decode_pairs (i + 2) rest))) (same_value a)
-    ∙ ap (λ l. paired (digit_value a) l (decoded (decode_pairs (i + 2) rest))) (same_value b)
-    ∙ ap (paired (digit_value a) (digit_value b)) (decoded-pairs (i + 2) rest)
+-- Digits to bytes, two digits at a time.
+use Rattle.std.proofs.Common.{◌≡◌, ℕ, suc, ◌+◌, ◌*◌, ◌%◌, ◌<◌, ◌≤◌, List, [], ◌∷◌, ◌++◌, length, get_or, take, drop, set, Some, None, Option, sym, refl, ap, ◌∙◌, append_assoc, arith, length-append, drop-cons}
+use Rattle.std.proofs.lemmas.List.{append-nil, flat_map_more, set_at, take_more, take_more_set}
+use Rattle.lines.specs.Hex.{before, byte_digits, digit_value, hex, paired, unhex}
 
 paired_none : (h l : Option ℕ) → paired h l None ≡ None
 paired_none (Some h) (Some l) = refl
 paired_none (Some h) None = refl
 paired_none None l = refl
 
-unhex_odd : (xs : List ℕ) → length xs % 2 ≡ 1 → unhex xs ≡ None
-unhex_odd [] odd = absurd (omega arith)
+pub unhex_odd : (xs : List ℕ) → (length xs % 2 ≡ 0 → ⊥) → unhex xs ≡ None
+unhex_odd [] odd = absurd (odd refl)
 unhex_odd (a ∷ []) odd = refl
 unhex_odd (a ∷ b ∷ rest) odd =
-    ap (paired (digit_value a) (digit_value b)) (unhex_odd rest (omega arith)) ∙ paired_none (digit_value a) (digit_value b)
+    ap (paired (digit_value a) (digit_value b)) (unhex_odd rest (λ e. odd (omega arith))) ∙ paired_none (digit_value a) (digit_value b)
 
-sized_odd : (digits : List ℕ) (n : ℕ) → length digits % 2 ≡ 1 → decode_sized digits n ≡ Err OddLength
-sized_odd digits n odd = grind arith
+before-before : (p q : List ℕ) (o : Option (List ℕ)) → before p (before q o) ≡ before (p ++ q) o
+before-before p q (Some more) = ap Some (sym (append_assoc p q more))
+before-before p q None = refl
 
-decoded-sized : (digits : List ℕ) (n : ℕ) → n ≡ length digits / 2 → decoded (decode_sized digits n) ≡ unhex digits
-decoded-sized digits n half =
-    elim (cases_eq (length digits % 2) 1) [
-      | inl odd ↦ ap decoded (sized_odd digits n odd) ∙ sym (unhex_odd digits odd)
-      | inr even ↦ ap decoded (decode_sized-pairs digits n (omega arith) (sym half)) ∙ decoded-pairs 0 digits
-    ]
+pub before-none : (o : Option (List ℕ)) → o ≡ before [] o
+before-none (Some more) = refl
+before-none None = refl
 
--- what decoding into a buffer answered, and what the buffer holds then
-abbrev pub Sized : Result (List ℕ) FromHexError → Result (Unit {0}) FromHexError → List ℕ → Type 0
-Sized sized r buffer = MatchResult sized (λ bytes. (r ≡ Ok tt) × (buffer ≡ bytes)) (λ e. r ≡ Err e)
+drop-two : (xs : List ℕ) (i : ℕ) → 2 * i + 1 < length xs
+    → drop (2 * i) xs ≡ get_or xs (2 * i) 0 ∷ get_or xs (2 * i + 1) 0 ∷ drop (2 * (i + 1)) xs
+drop-two xs i lt =
+    let first : 2 * i < length xs = omega arith in
+    let next : suc (2 * i) < length xs = omega arith in
+    let one : suc (2 * i) ≡ 2 * i + 1 = omega arith in
+    let two : suc (suc (2 * i)) ≡ 2 * (i + 1) = omega arith in
+    drop-cons xs (2 * i) 0 first
+    ∙ ap (λ ys. get_or xs (2 * i) 0 ∷ ys) (drop-cons xs (suc (2 * i)) 0 next)
+    ∙ ap (λ k. get_or xs (2 * i) 0 ∷ get_or xs k 0 ∷ drop (suc (suc (2 * i))) xs) one
+    ∙ ap (λ k. get_or xs (2 * i) 0 ∷ get_or xs (2 * i + 1) 0 ∷ drop k xs) two
 
-told_ok : (sized : Result (List ℕ) FromHexError) (r : Result (Unit {0}) FromHexError) (buffer : List ℕ) (u : Unit {0})
-    → Sized sized r buffer → result_ok r ≡ Some u → decoded sized ≡ Some buffer
-told_ok (Ok bytes) r buffer u told ok = ap Some (sym told.1)
-told_ok (Err e) r buffer u told ok = cc (told, ok)
+-- what is left of a line, by its first two digits
+left_is : (line bytes : List ℕ) (i : ℕ) → 2 * i + 1 < length line
+    → unhex line ≡ before (take i bytes) (unhex (drop (2 * i) line))
+    → unhex line ≡ before (take i bytes) (paired (digit_value (get_or line (2 * i) 0)) (digit_value (get_or line (2 * i + 1) 0)) (unhex (drop (2 * (i + 1)) line)))
+left_is line bytes i lt e = e ∙ ap (λ xs. before (take i bytes) (unhex xs)) (drop-two line i lt)
 
-told_err : (sized : Result (List ℕ) FromHexError) (r : Result (Unit {0}) FromHexError) (buffer : List ℕ)
-    → Sized sized r buffer → result_ok r ≡ None → decoded sized ≡ None
-told_err (Ok bytes) r buffer told err = cc (told.0, err)
-told_err (Err e) r buffer told err = refl
+module _ (line bytes : List ℕ) (i : ℕ) (lt : 2 * i + 1 < length line) (e : unhex line ≡ before (take i bytes) (unhex (drop (2 * i) line))) where
+  pub decode_high : None ≡ digit_value (get_or line (2 * i) 0) → unhex line ≡ None
+  decode_high none =
+      left_is line bytes i lt e
+      ∙ ap (λ v. before (take i bytes) (paired v (digit_value (get_or line (2 * i + 1) 0)) (unhex (drop (2 * (i + 1)) line)))) (sym none)
 
--- a decoded line
-pub unhex_ok : (digits : List ℕ) (n : ℕ) (r : Result (Unit {0}) FromHexError) (buffer : List ℕ) (u : Unit {0})
-    → n ≡ length digits / 2 → Sized (decode_sized digits n) r buffer → result_ok r ≡ Some u → unhex digits ≡ Some buffer
-unhex_ok digits n r buffer u half told ok = sym (decoded-sized digits n half) ∙ told_ok (decode_sized digits n) r buffer u told ok
+  pub decode_low : (h : ℕ) → Some h ≡ digit_value (get_or line (2 * i) 0) → None ≡ digit_value (get_or line (2 * i + 1) 0) → unhex line ≡ None
+  decode_low h some none =
+      left_is line bytes i lt e
+      ∙ ap (λ v. before (take i bytes) (paired v (digit_value (get_or line (2 * i + 1) 0)) (unhex (drop (2 * (i + 1)) line)))) (sym some)
+      ∙ ap (λ v. before (take i bytes) (paired (Some h) v (unhex (drop (2 * (i + 1)) line)))) (sym none)
 
--- a line that is no bytes
-pub unhex_err : (digits : List ℕ) (n : ℕ) (r : Result (Unit {0}) FromHexError) (buffer : List ℕ)
-    → n ≡ length digits / 2 → Sized (decode_sized digits n) r buffer → result_ok r ≡ None → unhex digits ≡ None
-unhex_err digits n r buffer half told err = sym (decoded-sized digits n half) ∙ told_err (decode_sized digits n) r buffer told err
+  pub decode_more : (h l : ℕ) → i < length bytes → Some h ≡ digit_value (get_or line (2 * i) 0) → Some l ≡ digit_value (get_or line (2 * i + 1) 0)
+      → unhex line ≡ before (take (i + 1) (set bytes i (h * 16 + l))) (unhex (drop (2 * (i + 1)) line))
+  decode_more h l room high low =
+      left_is line bytes i lt e
+      ∙ ap (λ v. before (take i bytes) (paired v (digit_value (get_or line (2 * i + 1) 0)) (unhex (drop (2 * (i + 1)) line)))) (sym high)
+      ∙ ap (λ v. before (take i bytes) (paired (Some h) v (unhex (drop (2 * (i + 1)) line)))) (sym low)
+      ∙ before-before (take i bytes) ((h * 16 + l) ∷ []) (unhex (drop (2 * (i + 1)) line))
+      ∙ ap (λ p. before p (unhex (drop (2 * (i + 1)) line))) (sym (take_more_set bytes i (h * 16 + l) room))
 
--- two digits for each byte
+pub decode_all : (line bytes : List ℕ) (n : ℕ) → drop (2 * n) line ≡ []
+    → unhex line ≡ before (take n bytes) (unhex (drop (2 * n) line)) → unhex line ≡ Some (take n bytes)
+decode_all line bytes n none e = e ∙ ap (λ xs. before (take n bytes) (unhex xs)) none ∙ ap Some (append-nil (take n bytes))
+
 pub length-hex : (bs : List ℕ) → length (hex bs) ≡ 2 * length bs
 length-hex [] = refl
 length-hex (b ∷ bs) = omega (arith, length-hex bs)

@@ -1,5 +1,5 @@
 -- Bytes as hexadecimal digits in ASCII.
-use Rattle.std.specs.Prelude.{ℕ, ◌+◌, ◌-◌, ◌*◌, ◌/◌, ◌%◌, Bool, cond, ◌&&◌, List, [], ◌∷◌, ◌++◌, Some, None, Option, nat_le, nat_lt}
+use Rattle.std.specs.Prelude.{◌≡◌, ℕ, ◌+◌, ◌-◌, ◌*◌, ◌/◌, ◌%◌, ◌≤◌, Bool, cond, ◌&&◌, List, [], ◌∷◌, ◌++◌, length, take, Some, None, Option, nat_le, nat_lt}
 use Rattle.std.specs.List.{flat_map}
 
 abbrev pub between : ℕ → ℕ → ℕ → Bool
@@ -38,3 +38,8 @@ abbrev pub unhex : List ℕ → Option (List ℕ)
 unhex [] = Some []
 unhex (a ∷ []) = None
 unhex (a ∷ b ∷ rest) = paired (digit_value a) (digit_value b) (unhex rest)
+
+-- the bytes of digits stand in front of a buffer, and are as many as was answered; none where the digits are no bytes or have no room
+abbrev pub Decodes : List ℕ → List ℕ → Option ℕ → Type 0
+Decodes digits buffer (Some n) = (n ≤ length buffer) × (unhex digits ≡ Some (take n buffer))
+Decodes digits buffer None = length digits ≤ 2 * length buffer → unhex digits ≡ None

@@ -2,6 +2,8 @@
 ghost use Rattle.std.specs.Prelude.{◌≡◌};
 ghost use Rattle.lines.specs.Lines.{Frames, call_of, line_call, may_ask_for};
 
+use crate::hex::decode;
+
 // Requests and shares are handed on as they came.
 #[derive(Clone, Copy)]
 pub enum Call<'a> {
@@ -43,9 +45,8 @@ fn frame_of<'a>(line: &[u8], room: &'a mut [u8; LONGEST_FRAME]) -> Option<&'a [u
     if line.len() > LINE_LIMIT {
         return None;
     }
-    let frame = &mut room[..line.len() / 2];
-    hex::decode_to_slice(line, frame).ok()?;
-    Some(frame)
+    let n = decode(line, room)?;
+    Some(&room[..n])
 }
 
 // The call that a line asks for; a request and a share stand in `room`.

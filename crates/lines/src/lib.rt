@@ -4,5 +4,6 @@
 pub mod answer_line;
 pub mod call;
 pub mod gather;
-pub mod puts;
+pub mod hex;
+pub mod replies;
 pub mod serve;

@@ -1,7 +1,7 @@
 // Numbers as bytes, high byte first, and bytes that are put into a buffer: the answer in front, the old bytes behind.
 #![tactic(auto)]
 
-ghost use Rattle.std.specs.Prelude.{◌≡◌, ◌+◌, ◌≤◌, length};
+ghost use Rattle.std.specs.Prelude.{◌≡◌, ◌+◌, ◌≤◌, ◌++◌, length, take};
 ghost use Rattle.octets.specs.Numbers.{be, limit, number_at};
 ghost use Rattle.octets.specs.Parts.{over, part_at};
 
@@ -34,6 +34,17 @@ pub fn put_bytes(bytes: &[u8], out: &mut [u8])
     ensures { out.new ≡ over bytes.now out.old }
 {
     out[..bytes.len()].copy_from_slice(bytes);
+}
+
+// Puts bytes to a buffer from a place on; the answer is where they end.
+pub fn put_at(bytes: &[u8], at: usize, out: &mut [u8]) -> usize
+    requires { at + length bytes.now ≤ length out.old }
+    ensures end { result ≡ at + length bytes.now }
+    ensures front { take result out.new ≡ take at out.old ++ bytes.now }
+{
+    let end = at + bytes.len();
+    out[at..end].copy_from_slice(bytes);
+    end
 }
 
 // Some bytes of a string, as a part of it.

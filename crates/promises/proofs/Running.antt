@@ -12,7 +12,7 @@ use Rattle.history.specs.Answers.{Lawful}
 use Rattle.history.proofs.Lawfuls.{lawful_push}
 use Rattle.history.proofs.ReadLaws.{shown-kept}
 use Rattle.board.specs.declared.state.Board.{Board}
-use Rattle.bank.specs.Answers.{shown_slot}
+use Rattle.answer.specs.Answers.{shown_slot}
 use Rattle.board.specs.Standing.{Represents}
 use Rattle.board.specs.WriteSets.{WriteSets}
 use Rattle.promises.specs.declared.calls.Call.{Call}

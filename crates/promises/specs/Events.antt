@@ -4,8 +4,8 @@ use Rattle.fault.specs.declared.Fault.{Fault}
 use Rattle.store.specs.declared.record.Record.{Record}
 use Rattle.history.specs.declared.Delivery.{Delivery}
 use Rattle.history.specs.Events.{Event, asked, delivered, marked, proved, shared_in, shared_out}
-use Rattle.bank.specs.declared.state.Mark as marks
-use Rattle.bank.specs.Answers.{said}
+use Rattle.answer.specs.declared.mark.Mark as marks
+use Rattle.answer.specs.Answers.{said}
 use Rattle.promises.specs.declared.calls.Call.{Call}
 use Rattle.promises.specs.declared.calls.Call.TheVariants.{Deliver, Item, Mark, Proof, ShareIn, ShareOut}
 use Rattle.promises.specs.declared.calls.Answer.{Answer}

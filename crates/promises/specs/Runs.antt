@@ -10,7 +10,7 @@ use Rattle.history.specs.Events.{Event, delivered, effects, width}
 use Rattle.history.specs.Commits.{HadRead, commits, kept, left, shown}
 use Rattle.history.specs.Answers.{Answered, Lawful}
 use Rattle.board.specs.declared.state.Board.{Board}
-use Rattle.bank.specs.Answers.{item_answer}
+use Rattle.answer.specs.Answers.{item_answer}
 use Rattle.board.specs.Standing.{Represents}
 use Rattle.board.specs.WriteSets.{WriteSets}
 use Rattle.promises.specs.declared.calls.Call.{Call}

@@ -1,6 +1,6 @@
 // How the rehearsal tells what happened.
-use crate::answer::Answer;
 use crate::cluster::Ruling;
+use crate::outcomes::Answer;
 use crate::play::{Play, Posted};
 use crate::shares::Passed;
 use crate::station::{Told, Unread};

@@ -1,6 +1,6 @@
 // A cluster of 3f + 1 boards, the wrong ones last.
-use crate::answer::{Answer, Tally};
 use crate::node::{Node, Suite};
+use crate::outcomes::{Answer, Tally};
 use crate::tools::{one_more, push, sure};
 use crate::words::Wish;
 use anyhow::Context;

@@ -3,11 +3,11 @@
 #![tactic(auto)]
 
 mod account;
-mod answer;
 mod cluster;
 mod damaged;
 mod long;
 mod node;
+mod outcomes;
 mod patch;
 mod play;
 mod readings;

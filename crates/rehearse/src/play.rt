@@ -1,7 +1,7 @@
 // A cluster at work: clients send requests, sessions decide, and what was decided is noted.
-use crate::answer::Answer;
 use crate::cluster::{Cluster, Ruling};
 use crate::node::Suite;
+use crate::outcomes::Answer;
 use crate::tools::{front, one_more, sure};
 use crate::truth::Truth;
 use crate::words::Wish;

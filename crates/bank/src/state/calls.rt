@@ -5,7 +5,7 @@ ghost use Rattle.digest.specs.Meaning.{bytes_by};
 ghost use Rattle.store.specs.Slot.{blank};
 
 use super::{Bank, Mark};
-use crate::items::look_up;
+use answer::items::look_up;
 use digest::Digest;
 use fault::{Cause, Fault, Layer};
 use store::Store;

@@ -4,11 +4,11 @@ ghost use Rattle.digest.specs.Meaning.{bytes_by};
 ghost use Rattle.history.specs.Answers.{Answered};
 ghost use Rattle.history.specs.Events.{Event, asked, effects, marked};
 ghost use Rattle.board.specs.Standing.{Represents};
-ghost use Rattle.bank.specs.Answers.{item_answer, said};
+ghost use Rattle.answer.specs.Answers.{item_answer, said};
 
 use super::{Board, Mark};
 use crate::size::Place;
-use bank::items::look_up;
+use answer::items::look_up;
 use digest::Digest;
 use fault::Fault;
 use numbers::clients::Clients;

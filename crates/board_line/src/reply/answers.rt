@@ -11,7 +11,8 @@ use board::state::Board;
 use digest::Digest;
 use lines::answer_line::AnswerLine;
 use lines::call::{Call, LONGEST_FRAME, line_call};
-use lines::puts::{put_mark, put_no_call};
+use lines::replies::{mark_reply, no_call_bytes};
+use octets::put_at;
 use seal::Seal;
 use store::Store;
 
@@ -34,7 +35,7 @@ fn put_reply<S: Store, D: Digest, L: Seal>(
         Call::Item(number) => put_item(board.item(number), out),
         Call::Mark => {
             let mark = board.mark();
-            put_mark(mark.count, &mark.chain, out)
+            put_at(&mark_reply(mark.count, &mark.chain), 0, out)
         }
         Call::ShareOut(version) => {
             let written = board.share_out(version, &mut out[1..LONGEST_ANSWER]);
@@ -55,7 +56,7 @@ fn put_line<S: Store, D: Digest, L: Seal>(
     let mut room = [0; LONGEST_FRAME];
     match line_call(line, &mut room) {
         Some(call) => put_reply(board, call, out),
-        None => put_no_call(out),
+        None => put_at(&no_call_bytes(), 0, out),
     }
 }
 

@@ -1,5 +1,5 @@
 // How the digits of an answer are shown.
-ghost use Rattle.std.specs.Prelude.{◌≡◌, ◌*◌, ◌<◌, ◌≤◌, ◌++◌, [], length, drop};
+ghost use Rattle.std.specs.Prelude.{◌≡◌, ◌*◌, ◌/◌, ◌<◌, ◌≤◌, ◌++◌, [], length, take, drop};
 ghost use Rattle.lines.specs.Hex.{digit_of, hex};
 ghost use Rattle.lines.specs.Shown.{digits_of};
 
@@ -37,13 +37,14 @@ impl<const N: usize> AnswerLine<N> {
         }
     }
 
-    // The digits of an answer, in place of those that were there.
+    // The digits of an answer, in place of those that were there: of as many of its bytes as have room.
     pub fn show(&mut self, bytes: &[u8])
-        requires { 2 * length bytes.now ≤ N }
-        ensures { digits_of self.new ≡ hex bytes.now }
+        ensures front { digits_of self.new ≡ hex (take (N / 2) bytes.now) }
+        ensures whole { 2 * length bytes.now ≤ N → digits_of self.new ≡ hex bytes.now }
     {
-        encode(bytes, &mut self.digits);
-        self.len = 2 * bytes.len();
+        let shown = &bytes[..bytes.len().min(N / 2)];
+        encode(shown, &mut self.digits);
+        self.len = 2 * shown.len();
     }
 
     pub fn as_slice(&self) -> &[u8]

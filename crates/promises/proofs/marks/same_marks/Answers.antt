@@ -1,4 +1,4 @@
-use Rattle.bank.proofs.Marks.{same_mark}
+use Rattle.answer.proofs.Marks.{same_mark}
 use Rattle.promises.proofs.Comparing.{compared, sized}
 use Rattle.promises.proofs.marks.same_marks.Goals as goal
 

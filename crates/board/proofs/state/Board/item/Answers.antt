@@ -1,7 +1,7 @@
 use Rattle.std.proofs.Common.{refl}
 use Rattle.digest.specs.Meaning.{bytes_by}
 use Rattle.history.specs.Events.{asked, effects}
-use Rattle.bank.specs.Answers.{said}
+use Rattle.answer.specs.Answers.{said}
 use Rattle.board.proofs.Items.{item-answered}
 use Rattle.board.proofs.Standing.{stands_quiet}
 use Rattle.board.proofs.state.Board.item.Goals as goal

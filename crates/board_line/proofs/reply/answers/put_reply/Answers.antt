@@ -1,6 +1,6 @@
 use Rattle.std.proofs.Common.{◌≡◌, ℕ, length, take, drop, sym, refl, ap, ◌∙◌, subst, arith, length-drop, length-take}
 use Rattle.history.specs.Events.{asked, delivered, marked, proved, shared_in, shared_out}
-use Rattle.bank.specs.Answers.{said}
+use Rattle.answer.specs.Answers.{said}
 use Rattle.board.proofs.Sets.{sets_quiet, share_quiet}
 use Rattle.lines.specs.Lines.{asks_for}
 use Rattle.lines.specs.Replies.{reply}
@@ -62,12 +62,12 @@ returns-in-Item g c = record {
 
 pub returns-in-Mark : goal.returns-in-Mark
 returns-in-Mark g c = record {
-  bound = c.put_mark.ensures.bound;
+  bound = omega arith;
   served = record {
     event = marked c.mark-mark.result.count c.mark-mark.result.chain;
     asks = ap asks_for (sym c.in-Mark.is);
     roomy = tt;
-    says = c.put_mark.ensures.front;
+    says = c.put_at.ensures.front ∙ c.mark_reply.ensures;
     history = λ tag f own h st sets. (let told = c.mark-mark.ensures.history tag f own h st in (told.0, tt, told.1, sets_quiet h _ refl sets));
     changes = refl;
   };

@@ -3,7 +3,7 @@ use Rattle.std.proofs.Common.{◌≡◌, Bool, ◌&&◌, eqb, Decides, sym, refl
 use Rattle.std.proofs.lemmas.Bool.Decides.{Decides-and, Decides-eqb}
 use Rattle.std.proofs.lemmas.Slice.Eq.{slice_eq-Decides}
 use Rattle.std.specs.Cmp.Lexicographic.{pointwise}
-use Rattle.bank.specs.declared.state.Mark.{Mark}
+use Rattle.answer.specs.declared.mark.Mark.{Mark}
 
 pub same_mark : (a b : Mark) (r : Bool) → r ≡ (eqb a.count b.count && pointwise eqb a.chain b.chain) → Decides r ((a.count ≡ b.count) × (a.chain ≡ b.chain))
 same_mark a b r is =
