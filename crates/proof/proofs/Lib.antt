@@ -7,6 +7,7 @@ mod Strides
 pub mod Stepping
 pub mod Walking
 mod Laid
+mod Parting
 pub mod Weighing
 pub mod Writes
 mod WeighTurns

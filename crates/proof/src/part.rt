@@ -8,6 +8,9 @@ ghost use Rattle.proof.specs.Turns.{BeforeItem, BeforePair, GivesItem, GivesPair
 // The most bytes of a body: eight writes.
 const BODY: usize = 267;
 
+// The farthest place of an entry of which a pair is given.
+const FARTHEST: u32 = 1_000_000;
+
 // An entry with its pairs. The body is what is sealed; the place is where it begins in the frame.
 #[derive(Clone, Copy)]
 pub struct SealedPart<'a> {
@@ -108,7 +111,10 @@ impl<'a> SealedPart<'a> {
         ensures found { (f at : ℕ) (s : SealedBody) → PartHolds f at self.entry s → FoundAt ItemHolds s.entry.items k result }
         ensures long { Inside (λ x. length x.digest.now ≡ 32) result }
     {
-        self.items().nth(k as usize)
+        let mut rest = Items {
+            left: self.body.get(3 + 33 * usize::from(k)..)?,
+        };
+        rest.next()
     }
 
     // Pair k of the entry, or none behind the last.
@@ -116,6 +122,14 @@ impl<'a> SealedPart<'a> {
         ensures found { (f at : ℕ) (s : SealedBody) → PartHolds f at self.entry s → FoundAt (PairHolds (tag_place 2 at s k)) s.pairs k result }
         ensures long { Inside (λ x. length x.tag.now ≡ 16) result }
     {
-        self.pairs().nth(k as usize)
+        if self.place > FARTHEST || self.body.len() > BODY {
+            return None;
+        }
+        let at = 17 * usize::from(k);
+        let mut rest = Pairs {
+            left: self.pairs.get(at..)?,
+            place: self.place + (self.body.len() + at) as u32,
+        };
+        rest.next()
     }
 }

@@ -7,6 +7,7 @@ ghost use Rattle.reading.specs.Drafts.{count_bytes, count_judged, draft_bytes, d
 ghost use Rattle.record.specs.Chains.{after};
 ghost use Rattle.reading.specs.Plans.{plan_seen};
 
+use crate::mark::ItemAt;
 use crate::part::ReadingDraft;
 use crate::plan::{Plan, check_order};
 use fault::{Cause, Fault, Layer};
@@ -31,7 +32,7 @@ fn plan_draft(items: &[ReadingDraft]) -> Result<Plan, Fault>
     ensures few { IfOk result (λ p. p.end ≤ 200000) }
 {
     check_count(items.len())?;
-    let (items, end) = plan_all(items, 2)?;
+    let (items, end) = plan_all(items, 2, ItemAt::default())?;
     Ok(Plan { items, end })
 }
 

@@ -43,7 +43,7 @@ pub(crate) fn lay_out(frame: &[u8]) -> Result<Plan, Fault>
     ensures few { IfOk result (λ p. (length frame.now ≡ p.end) × (2 ≤ p.end)) }
 {
     let count = read_count(frame)?;
-    let (items, end) = read_all(frame, 2, count as usize)?;
+    let (items, end) = read_all(frame, 2, count as usize, ItemAt::default())?;
     let n = frame.len();
     if n > end {
         return Err(malformed(end as u32));

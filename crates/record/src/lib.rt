@@ -57,18 +57,20 @@ pub trait Record: Numbered {
     ghost narrow: { (bs : List ℕ) (at : ℕ) (r : Self) → stands bs at ≡ Ok r → (at ≤ ends r) × (ends r ≤ at + 8192) };
 }
 
-// Marks records that stand one behind the other, at most as many as fit, and answers where they end.
-pub fn read_all<R: Record + Default, const N: usize>(
+// Marks records that stand one behind the other, at most as many as fit, and answers where they end. The places that hold no mark hold a value that no one reads.
+pub fn read_all<R: Record, const N: usize>(
     frame: &[u8],
     start: usize,
     count: usize,
+    unread: R,
 ) -> Result<(InlineVec<R, N>, usize), Fault>
     requires { start + 8192 * count < 16777216 }
     ensures near { IfOk result (λ p. (start ≤ p.1) × (p.1 ≤ start + 8192 * count)) }
     ensures all { marked result ≡ run R.Record.stands R.Record.ends frame.now (min count N) start }
+    ensures whole { count ≤ N → marked result ≡ run R.Record.stands R.Record.ends frame.now count start }
 {
     let most = count.min(N);
-    let mut marks = InlineVec::new(R::default());
+    let mut marks = InlineVec::new(unread);
     let mut at = start;
     for _ in 0..most {
         let mark = R::read_at(frame, at)?;

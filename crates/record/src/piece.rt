@@ -53,19 +53,19 @@ pub trait Part: Piece {
         ensures answer { result ≡ judged self at };
 }
 
-// The marks that a reader finds where the parts are written, at most as many as fit, and where the parts end.
+// The marks that a reader finds where the parts are written, at most as many as fit, and where the parts end. The places that hold no mark hold a value that no one reads.
 pub fn plan_all<P: Part, const N: usize>(
     parts: &[P],
     start: usize,
+    unread: P::Mark,
 ) -> Result<(InlineVec<P::Mark, N>, usize), Fault>
-where
-    P::Mark: Default,
     requires { start + 8192 * length parts.now < 16777216 }
     ensures near { IfOk result (λ p. p.1 ≤ start + 8192 * length parts.now) }
     ensures all { marked result ≡ planned_run P.Part.judged P.Mark.Record.ends (take N parts.now) start }
+    ensures whole { length parts.now ≤ N → marked result ≡ planned_run P.Part.judged P.Mark.Record.ends parts.now start }
 {
     let first = &parts[..parts.len().min(N)];
-    let mut marks = InlineVec::new(P::Mark::default());
+    let mut marks = InlineVec::new(unread);
     let mut at = start;
     for part in first {
         let mark = part.mark_at(at)?;

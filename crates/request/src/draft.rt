@@ -61,8 +61,8 @@ fn plan_draft(draft: Draft) -> Result<Plan, Fault>
     ensures tag { length draft.entry.tag ≡ 16 }
 {
     let top = plan_head(draft)?;
-    let (reads, writes_at) = plan_all(draft.reads, HEAD)?;
-    let (writes, tag_at) = plan_all(draft.writes, writes_at)?;
+    let (reads, writes_at) = plan_all(draft.reads, HEAD, ReadAt::default())?;
+    let (writes, tag_at) = plan_all(draft.writes, writes_at, WriteAt::default())?;
     Ok(Plan {
         top,
         reads,

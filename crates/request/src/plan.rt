@@ -81,8 +81,8 @@ pub(crate) fn lay_out(frame: &[u8]) -> Result<Plan, Fault>
     ensures few { IfOk result (λ p. (p.top.reads ≤ 16) × (p.top.writes ≤ 8) × (length frame.now ≡ p.tag_at + 16) × (6 ≤ p.writes_at) × (p.writes_at ≤ p.tag_at)) }
 {
     let top = read_head(frame)?;
-    let (reads, writes_at) = read_all(frame, HEAD, top.reads as usize)?;
-    let (writes, tag_at) = read_all(frame, writes_at, top.writes as usize)?;
+    let (reads, writes_at) = read_all(frame, HEAD, top.reads as usize, ReadAt::default())?;
+    let (writes, tag_at) = read_all(frame, writes_at, top.writes as usize, WriteAt::default())?;
     let n = frame.len();
     if n < tag_at + 16 {
         return Err(malformed(n as u32));

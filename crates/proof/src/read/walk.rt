@@ -99,6 +99,9 @@ impl<'a> Proof<'a> {
     pub fn entry(self, i: u32) -> Option<SealedPart<'a>>
         ensures { (f : ℕ) (b : ProofBody) → Holds f self.entry b → FoundAt (PartHolds f (entry_place 2 b i)) b.entries i result }
     {
+        if i >= self.len() {
+            return None;
+        }
         self.entries().nth(i as usize)
     }
 }

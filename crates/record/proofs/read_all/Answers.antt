@@ -2,7 +2,7 @@ use Rattle.std.proofs.Common.{◌≡◌, ◌<◌, length, ◌++◌, ◌∷◌, [
 use Rattle.std.proofs.lemmas.List.{length-append}
 use Rattle.std.proofs.lemmas.Result.{err_from_is_err_and}
 use Rattle.record.specs.Runs.{run}
-use Rattle.record.proofs.Runs.{turn, stop, end}
+use Rattle.record.proofs.Runs.{turn, stop, end, run_fits}
 use Rattle.inline_vec.specs.Lists.{items}
 use Rattle.record.proofs.read_all.Goals as goal
 
@@ -11,6 +11,9 @@ returns-in_err-mark-clause-all g c =
     let t = g.R.Record in
     let p = err_from_is_err_and c.from_residual.result c.from_residual.ensures.1 in
     rw (p.1, p.2) (sym (stop t.stands t.ends c.args.frame.now _ _ _ _ _ c.loop-test.true (sym c.in_err-mark.ensures)) ∙ c.loop.invariant.3 ∙ ap (λ n. run t.stands t.ends c.args.frame.now n c.args.start) c.min-most.ensures)
+
+pub returns-in_err-mark-clause-whole : goal.returns-in_err-mark-clause-whole
+returns-in_err-mark-clause-whole g c = λ few. returns-in_err-mark-clause-all g c ∙ run_fits g.R.Record.stands g.R.Record.ends c.args.frame.now c.args.count g.row.N c.args.start few
 
 pub loop-preserved : goal.loop-preserved
 loop-preserved g c =

@@ -1,8 +1,6 @@
 use Rattle.std.proofs.Common.{Ok, sym, ◌∙◌, arith}
 use Rattle.inline_vec.specs.Lists.{items}
 use Rattle.octets.specs.Numbers.{Bytes}
-use Rattle.record.proofs.Runs.{run_fits}
-use Rattle.reading.specs.Marks.{read_item_stands, read_item_ends}
 use Rattle.reading.specs.Plans.{Marks}
 use Rattle.reading.proofs.Laying.{together}
 use Rattle.reading.proofs.Taking.{laid_out, items-ran}
@@ -16,7 +14,7 @@ returns c =
     let b = c.in_ok-items.ensures in
     let n = c.in_ok-count.count in
     let m : Marks = record { count = n; items = items c.in_ok-items.items; end = c.in_ok-items.end } in
-    let e = together 2 bs n m.items m.end a.answer (b.all ∙ run_fits (read_item_stands 2) read_item_ends bs n 16 2 a.few) c.if-n-end.false in
+    let e = together 2 bs n m.items m.end a.answer (b.whole a.few) c.if-n-end.false in
     let r = items-ran 2 bs all m (laid_out 2 bs m (sym e)) in
     record {
       answer = (λ i. Ok (record { count = r.count i; items = m.items; end = m.end })) ∙ e;

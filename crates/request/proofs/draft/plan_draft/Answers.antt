@@ -3,7 +3,6 @@ use Rattle.std.proofs.lemmas.Result.{err_from_is_err_and}
 use Rattle.inline_vec.specs.Lists.{items}
 use Rattle.record.specs.Runs.{planned_run}
 use Rattle.record.proofs.Steps.{then_ok, then_err}
-use Rattle.record.proofs.Runs.{plan_fits}
 use Rattle.request.specs.Marks.{read_ends, write_ends}
 use Rattle.request.specs.Drafts.{head_judged, plan_reads, plan_writes, read_judged, write_judged}
 use Rattle.request.proofs.Laying.{draft_together}
@@ -15,7 +14,7 @@ returns-in_err-reads-clause-answer c =
     let p = err_from_is_err_and c.from_residual-in_err-reads.result c.from_residual-in_err-reads.ensures.1 in
     let a = c.in_ok-top.ensures in
     let h = c.in_ok-top.top in
-    let one = c.in_err-reads.ensures.all ∙ plan_fits read_judged (read_ends 2) ds.reads.now 16 6 (omega (arith, a.few)) in
+    let one = c.in_err-reads.ensures.whole (omega (arith, a.few)) in
     rw (p.1, p.2) (sym (then_ok (head_judged ds.client ds.sequence (length ds.reads.now) (length ds.writes.now)) (plan_reads ds) h (sym a.answer) ∙ then_err (planned_run read_judged (read_ends 2) ds.reads.now 6) (plan_writes ds h) _ (sym one)))
 
 pub returns-in_err-writes-clause-answer : goal.returns-in_err-writes-clause-answer
@@ -26,8 +25,8 @@ returns-in_err-writes-clause-answer c =
     let h = c.in_ok-top.top in
     let rs = items c.in_ok-reads.reads in
     let e = c.in_ok-reads.writes_at in
-    let one = c.in_ok-reads.ensures.all ∙ plan_fits read_judged (read_ends 2) ds.reads.now 16 6 (omega (arith, a.few)) in
-    let two = c.in_err-writes.ensures.all ∙ plan_fits write_judged write_ends ds.writes.now 8 e (omega (arith, a.few)) in
+    let one = c.in_ok-reads.ensures.whole (omega (arith, a.few)) in
+    let two = c.in_err-writes.ensures.whole (omega (arith, a.few)) in
     rw (p.1, p.2) (sym
     (then_ok (head_judged ds.client ds.sequence (length ds.reads.now) (length ds.writes.now)) (plan_reads ds) h (sym a.answer)
     ∙ then_ok (planned_run read_judged (read_ends 2) ds.reads.now 6) (plan_writes ds h) (rs, e) (sym one)
@@ -41,7 +40,7 @@ returns c =
     let d = c.in_ok-writes.ensures in
     let h = c.in_ok-top.top in
     record {
-      answer = draft_together ds h _ _ _ _ a.answer (b.all ∙ plan_fits read_judged (read_ends 2) ds.reads.now 16 6 (omega (arith, a.few))) (d.all ∙ plan_fits write_judged write_ends ds.writes.now 8 c.in_ok-reads.writes_at (omega (arith, a.few)));
+      answer = draft_together ds h _ _ _ _ a.answer (b.whole (omega (arith, a.few))) (d.whole (omega (arith, a.few)));
       few = (a.few.2, a.few.3, omega (arith, a.few, b.near, d.near));
       tag = search rules;
     }

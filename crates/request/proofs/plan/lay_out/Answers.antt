@@ -1,6 +1,4 @@
-use Rattle.std.proofs.Common.{◌∙◌, arith}
-use Rattle.record.proofs.Runs.{run_fits}
-use Rattle.request.specs.Marks.{read_stands, read_ends, write_stands, write_ends}
+use Rattle.std.proofs.Common.{arith}
 use Rattle.request.proofs.Laying.{together}
 use Rattle.request.proofs.plan.lay_out.Goals as goal
 
@@ -12,6 +10,6 @@ returns c =
     let d = c.in_ok-writes.ensures in
     let h = c.in_ok-top.top in
     record {
-      answer = together 2 bs h _ _ _ _ a.answer (b.all ∙ run_fits (read_stands 2) (read_ends 2) bs h.reads 16 6 a.few.0) (d.all ∙ run_fits write_stands write_ends bs h.writes 8 c.in_ok-reads.writes_at a.few.1) c.if-n-tag_at.false c.if-n-tag_at-2.false;
+      answer = together 2 bs h _ _ _ _ a.answer (b.whole a.few.0) (d.whole a.few.1) c.if-n-tag_at.false c.if-n-tag_at-2.false;
       few = (a.few.0, a.few.1, omega arith, b.near.0, d.near.0);
     }
