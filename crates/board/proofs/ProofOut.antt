@@ -58,21 +58,28 @@ module _ (w : Window) (low high first n : ℕ) (es part : List SealedEntry) (f g
       is ∙ ap (λ (xs : List SealedBody). 5 + length (flat_map (sealed_bytes 2) xs)) (sym all ∙ ap (map sealed_body) (sym front)) ∙ five
       ∙ ap (λ (b : ProofBody). length (proof_bytes 2 b)) drafted-is
 
-  pub proof-written : (size count : ℕ) (u v : Unit {0}) (old : List ℕ) (r : Result ℕ Fault) → Ok u ≡ range_now count low high
-      → Ok v ≡ tested (map (sealed_row w f) (range_with_len first n)) → size ≡ 5 + length (flat_map (sealed_bytes 2) (map (sealed_in w) (range_with_len first n))) → size ≤ length old
-      → r ≡ write_proof 2 g (drafted first high part) (length old) → r ≡ proof_now w f count low high (length old)
-  proof-written size count u v old r kept sealed long space is =
+  pub framed-written : (size : ℕ) (old : List ℕ) (r : Result ℕ Fault)
+      → size ≡ 5 + length (flat_map (sealed_bytes 2) (map (sealed_in w) (range_with_len first n))) → size ≤ length old
+      → r ≡ write_proof 2 g (drafted first high part) (length old) → r ≡ framed_now f (proof_in w low high) (length old)
+  framed-written size old r long space is =
       let b = proof_in w low high in
-      let rows : tested (map (sealed_row w f) (versions (max 1 low) high)) ≡ Ok v =
-      (λ t. tested (map (sealed_row w f) (range_with_len (sym lowest t) (sym (many ∙ ap (λ k. high + 1 - k) lowest) t)))) ∙ sym sealed in
       let whole : AllByRecursion Solid b.entries = subst (λ (x : ProofBody). AllByRecursion Solid x.entries) drafted-is (solid part) in
       let fits : length (proof_bytes 2 b) ≤ length old = omega (arith, drafted_size size long, space) in
       is ∙ (λ t. write_proof 2 (among t) (drafted-is t) (length old)) ∙ room_kept f (length old) b whole fits
-      ∙ sym (ap (λ x. after x (after (tested (map (sealed_row w f) (versions (max 1 low) high))) (framed_now f b (length old)))) (sym kept)
-      ∙ ap (λ x. after x (framed_now f b (length old))) rows)
 
   pub proof-bytes : (old new : List ℕ) (r : Result ℕ Fault) → ProofWrites 2 g (drafted first high part) old new r → new ≡ filled r (proof_bytes 2 (proof_in w low high)) old
   proof-bytes old new r put = put.buffer ∙ ap (λ (b : ProofBody). filled r (proof_bytes 2 b) old) drafted-is
 
   pub proof-back : (old new : List ℕ) (r : Result ℕ Fault) → ProofWrites 2 g (drafted first high part) old new r → (n : ℕ) → r ≡ Ok n → proof_of 2 f (take n new) ≡ Ok (proof_in w low high)
   proof-back old new r put m done = ap (λ k. proof_of 2 k (take m new)) (sym among) ∙ (put.back m done).2 ∙ ap Ok drafted-is
+
+-- behind the checks the frame decides
+pub proof-framed : (w : Window) (f count low high first n room : ℕ) (u v : Unit {0}) (r : Result ℕ Fault) → first ≡ max 1 low → n ≡ high + 1 - first
+    → Ok u ≡ range_now count low high → Ok v ≡ tested (map (sealed_row w f) (range_with_len first n)) → r ≡ framed_now f (proof_in w low high) room
+    → r ≡ proof_now w f count low high room
+proof-framed w f count low high first n room u v r lowest many kept sealed is =
+    let rows : tested (map (sealed_row w f) (versions (max 1 low) high)) ≡ Ok v =
+    (λ t. tested (map (sealed_row w f) (range_with_len (sym lowest t) (sym (many ∙ ap (λ k. high + 1 - k) lowest) t)))) ∙ sym sealed in
+    is
+    ∙ sym (ap (λ x. after x (after (tested (map (sealed_row w f) (versions (max 1 low) high))) (framed_now f (proof_in w low high) room))) (sym kept)
+    ∙ ap (λ x. after x (framed_now f (proof_in w low high) room)) rows)

@@ -1,9 +1,8 @@
 -- The laws of shares by signer.
-use Rattle.std.proofs.Common.{◌≡◌, ℕ, zero, suc, ◌+◌, ◌<◌, ◌≤◌, cond, List, [], ◌∷◌, ◌++◌, length, get_or, take, count_by, is_some, Some, None, Option, Ok, Err, Result, sym, refl, ap, ◌∙◌, subst, inl, inr, zero-le, not-suc-le-zero, add-one, arith}
+use Rattle.std.proofs.Common.{◌≡◌, ℕ, zero, suc, ◌+◌, ◌<◌, ◌≤◌, Bool, true, false, cond, List, [], ◌∷◌, ◌++◌, length, get_or, take, is_some, Some, None, Option, Ok, Err, Result, sym, refl, ap, ◌∙◌, subst, inl, inr, zero-le, not-suc-le-zero, add-one, arith}
 use Rattle.std.proofs.ByRecursion.{All-append, All-get_or, All-weaker}
 use Rattle.std.proofs.lemmas.List.{append-nil, get_or_append_left, get_or_at, length-append, length_push, length-take, take_all, take-append-le}
 use Rattle.std.proofs.lemmas.Bool.{cases_eq, cases_lt}
-use Rattle.std.proofs.lemmas.List.Sums.{sum_by_more}
 use Rattle.std.specs.List.{AllByRecursion as All}
 use Rattle.inline_vec.specs.declared.calls.Full.{Full}
 use Rattle.entry.specs.Bodies.{PairBody, Pushed}
@@ -44,6 +43,20 @@ rise_one n (Some t) ps under rise i d lt =
 
 module _ (tag : ℕ → Option (List ℕ)) where
   -- the steps of a loop over signers
+  pub shares-more : (n : ℕ) → shares_below tag (n + 1) ≡ shares_below tag n + one (tag n)
+  unfolding shares_below
+  shares-more n = ap (shares_below tag) (add-one n)
+
+  pub shares_start : shares_below tag 0 ≡ 0
+  unfolding shares_below
+  shares_start = refl
+
+  pub shares_yes : (n : ℕ) → is_some (tag n) ≡ true → shares_below tag (n + 1) ≡ shares_below tag n + 1
+  shares_yes n is = let bit : Bool → ℕ = λ b. cond b 1 0 in omega (arith, shares-more n, ap bit is)
+
+  pub shares_no : (n : ℕ) → is_some (tag n) ≡ false → shares_below tag (n + 1) ≡ shares_below tag n
+  shares_no n is = let bit : Bool → ℕ = λ b. cond b 1 0 in omega (arith, shares-more n, ap bit is)
+
   pub pairs-more : (n : ℕ) → pairs_below tag (n + 1) ≡ pairs_below tag n ++ pair_of n (tag n)
   unfolding pairs_below
   pairs-more n = ap (pairs_below tag) (add-one n)
@@ -112,14 +125,6 @@ module _ (old new : ℕ → Option (List ℕ)) where
     | inl e ↦ omega (arith, shares-same n (λ s below. same s (omega arith)), ap one (ap old e ∙ none), ap one (ap new e ∙ some))
     | inr ne ↦ omega (arith, shares-added n signer t (omega arith) none some same, ap one (same n ne))
   ]
-
--- the shares of a row of tags are those of its tags that came in
-pub shares_counted : (ts : List (Option (List ℕ))) (n : ℕ) → n ≤ length ts → count_by is_some (take n ts) ≡ shares_below (λ s. get_or ts s None) n
-unfolding shares_below
-shares_counted ts zero le = refl
-shares_counted ts (suc n) le =
-    let lt : n < length ts = omega arith in
-    ap (λ k. count_by is_some (take k ts)) (sym (add-one n)) ∙ sum_by_more (λ t. cond (is_some t) 1 0) ts n None lt ∙ ap (λ k. k + one (get_or ts n None)) (shares_counted ts n (omega arith))
 
 -- one more behind the first six of a row
 module _ {X B : Type 0} (f : X → B) (bs after : List B) (x : X) where

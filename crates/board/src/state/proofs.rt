@@ -12,7 +12,7 @@ ghost use Rattle.history.specs.Answers.{Answered, ProofReadsBack};
 ghost use Rattle.history.specs.Events.{Event, effects, proved};
 ghost use Rattle.board.specs.Standing.{Represents};
 ghost use Rattle.board.specs.WriteSets.{WriteSets};
-ghost use Rattle.board.specs.Proofs.{proof_in, proof_now, range_now, sealed_in, sealed_row};
+ghost use Rattle.board.specs.Proofs.{framed_now, proof_in, proof_now, range_now, sealed_in, sealed_row};
 
 use super::Board;
 use digest::Digest;
@@ -37,6 +37,25 @@ fn gather(window: &Window, first: u32, count: usize, entries: &mut [SealedEntry]
         entries[i] = sealed;
     }
     size
+}
+
+// Writes the proof of versions that a window holds to the front of a buffer; a lowest 0 counts as 1.
+// Apart from the checks before it, so that a call that is refused does not pay for the list of entries.
+fn write_range(window: &Window, low: u32, high: u32, f: u8, out: &mut [u8]) -> Result<usize, Fault>
+    requires { (high ≤ limit 2) × ((max 1 low ≤ high + 1) × (high + 1 ≤ max 1 low + 32)) }
+    ensures answer { result ≡ framed_now f (proof_in window.now low high) (length out.old) }
+    ensures bytes { out.new ≡ filled result (proof_bytes 2 (proof_in window.now low high)) out.old }
+    ensures back { (n : ℕ) → result ≡ Ok n → proof_of 2 f (take n out.new) ≡ Ok (proof_in window.now low high) }
+{
+    let first = low.max(1);
+    let count = (high + 1 - first) as usize;
+    let none = SealedEntry::new(window.entry(first));
+    let mut entries = [none; 32];
+    let size = gather(window, first, count, &mut entries);
+    if out.len() < size {
+        return Err(Cause::NoRoom.at(Layer::Board, 0));
+    }
+    write_proof(first, high, &entries[..count], f, out)
 }
 
 impl<S: Store, D: Digest, L: Seal> Board<S, D, L> {
@@ -78,21 +97,8 @@ impl<S: Store, D: Digest, L: Seal> Board<S, D, L> {
         self.check_range(low, high)?;
         // A lowest version 0 counts as 1.
         let first = low.max(1);
-        let count = high + 1 - first;
-        self.check_sealed(first, count)?;
-        let none = SealedEntry::new(self.window.entry(first));
-        let mut entries = [none; 32];
-        let size = gather(&self.window, first, count as usize, &mut entries);
-        if out.len() < size {
-            return Err(Cause::NoRoom.at(Layer::Board, 0));
-        }
-        write_proof(
-            first,
-            high,
-            &entries[0..count as usize],
-            self.place.faults(),
-            out,
-        )
+        self.check_sealed(first, high + 1 - first)?;
+        write_range(&self.window, low, high, self.place.faults(), out)
     }
 
     // Writes a proof of the versions from low to high to the front of a buffer; a lowest 0 counts as 1.

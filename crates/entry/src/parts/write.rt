@@ -7,7 +7,7 @@ ghost use Rattle.entry.specs.Bodies.{entry_body, entry_bytes, head_bytes, item_b
 ghost use Rattle.entry.specs.Written.{BodyWritten};
 
 use super::{Entry, ItemDigest, Pair, SealedEntry};
-use octets::{put_bytes, put_number};
+use octets::put_number;
 use record::piece::{Piece, put_all};
 
 // A write: the item and the digest.
@@ -22,7 +22,7 @@ impl Piece for ItemDigest {
 
     fn put(self, out: &mut [u8]) {
         out[0] = self.item;
-        put_bytes(&self.digest, &mut out[1..]);
+        out[1..33].copy_from_slice(&self.digest);
     }
 }
 
@@ -38,7 +38,7 @@ impl Piece for Pair {
 
     fn put(self, out: &mut [u8]) {
         out[0] = self.signer;
-        put_bytes(&self.tag, &mut out[1..]);
+        out[1..17].copy_from_slice(&self.tag);
     }
 }
 
