@@ -18,31 +18,81 @@ mod tests {
         }
     }
 
-    fn refused(cause: Cause) -> Result<Option<Decision>, Fault> {
-        Err(cause.at(Layer::Session, 0))
+    // Whether a session refused for a cause, under the number and the letter that answers carry.
+    fn is_refused(answer: Result<Option<Decision>, Fault>, cause: Cause, number: u8) -> bool {
+        let Err(f) = answer else {
+            return false;
+        };
+        f == cause.at(Layer::Session, 0)
+            && u8::from(f.cause) == number
+            && u8::from(f.layer) == b'C'
+            && f.place == 0
+    }
+
+    // Whether a session decided to commit at a version, under the byte that answers carry.
+    fn is_commit(answer: Result<Option<Decision>, Fault>, version: u32) -> bool {
+        let Ok(Some(decision)) = answer else {
+            return false;
+        };
+        decision == Decision::Commit { version } && u8::from(decision.verdict()) == 1
     }
 
     #[test]
     fn two_boards_that_agree_decide(rt: HostRuntime) -> Result<(), Fail> {
-        let seven = Some(Decision::Commit { version: 7 });
         let mut session = Session::new(ClusterSize::new(1)?);
         assert!(rt; session.reply(says(0, Verdict::Commit, 7)) == Ok(None));
-        assert!(rt; session.reply(says(0, Verdict::Commit, 7)) == refused(Cause::Settled));
+        assert!(rt;
+            is_refused(
+                session.reply(says(0, Verdict::Commit, 7)),
+                Cause::Settled,
+                16
+            )
+        );
         assert!(rt; session.reply(says(2, Verdict::Commit, 8)) == Ok(None));
         assert!(rt; session.reply(says(1, Verdict::Abort, 0)) == Ok(None));
-        assert!(rt; session.reply(says(3, Verdict::Commit, 7)) == Ok(seven));
-        assert!(rt; session.outcome() == seven);
-        assert!(rt; session.reply(says(1, Verdict::Commit, 7)) == refused(Cause::Settled));
+        assert!(rt; is_commit(session.reply(says(3, Verdict::Commit, 7)), 7));
+        assert!(rt; is_commit(Ok(session.outcome()), 7));
+        assert!(rt;
+            is_refused(
+                session.reply(says(1, Verdict::Commit, 7)),
+                Cause::Settled,
+                16
+            )
+        );
         Ok(())
     }
 
     #[test]
     fn checks_come_in_order(rt: HostRuntime) -> Result<(), Fail> {
         let mut session = Session::new(ClusterSize::new(1)?);
-        assert!(rt; session.reply(says(4, Verdict::Commit, 0)) == refused(Cause::Malformed));
-        assert!(rt; session.reply(says(0, Verdict::Abort, 1)) == refused(Cause::Malformed));
-        assert!(rt; session.reply(says(4, Verdict::Commit, 1)) == refused(Cause::NotMember));
-        assert!(rt; session.reply(says(255, Verdict::Abort, 0)) == refused(Cause::NotMember));
+        assert!(rt;
+            is_refused(
+                session.reply(says(4, Verdict::Commit, 0)),
+                Cause::Malformed,
+                1
+            )
+        );
+        assert!(rt;
+            is_refused(
+                session.reply(says(0, Verdict::Abort, 1)),
+                Cause::Malformed,
+                1
+            )
+        );
+        assert!(rt;
+            is_refused(
+                session.reply(says(4, Verdict::Commit, 1)),
+                Cause::NotMember,
+                5
+            )
+        );
+        assert!(rt;
+            is_refused(
+                session.reply(says(255, Verdict::Abort, 0)),
+                Cause::NotMember,
+                5
+            )
+        );
         assert!(rt; session.reply(says(3, Verdict::Abort, 0)) == Ok(None));
         Ok(())
     }

@@ -80,6 +80,8 @@ mod tests {
 
     #[test]
     fn items_end_at_63(rt: HostRuntime) -> Result<(), Fail> {
+        let last = Item::new(63).ok_or("63 is an item")?;
+        assert_eq!(rt; last.number(), 63);
         assert_eq!(rt; item(63)?.number(), 63);
         assert!(rt; Item::new(64).is_none());
         assert_eq!(rt; Item::try_from(64u8), Err(NoItem));

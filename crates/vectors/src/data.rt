@@ -52,6 +52,11 @@ impl Case {
     // From a line with the message and the value, in hexadecimal digits.
     pub fn given(heap: Global, line: &str) -> anyhow::Result<Case> {
         let (message, value) = fields(line)?;
+        Case::written(heap, message, value)
+    }
+
+    // From the message and the value, in hexadecimal digits.
+    pub fn written(heap: Global, message: &str, value: &str) -> anyhow::Result<Case> {
         Ok(Case {
             message: unhex(heap, message)?,
             expected: unhex(heap, value)?,

@@ -34,8 +34,9 @@ fn at_all_cuts(key: &[u8; 32], case: &Case) -> bool {
 pub fn rfc4231(heap: Global, text: &str) -> anyhow::Result<Tally> {
     each_line(text, |line| {
         let (key, others) = fields(line)?;
-        let case = Case::given(heap, others)?;
+        let (message, code) = fields(others)?;
         let key = key_of(unhex(heap, key)?.as_slice());
+        let case = Case::written(heap, message, code)?;
         Ok(at_all_cuts(&key, &case))
     })
 }
