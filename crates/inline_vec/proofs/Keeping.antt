@@ -1,8 +1,7 @@
 -- A loop that moves the values that it keeps to the front.
 use Rattle.std.proofs.Common.{◌≡◌, ℕ, ◌+◌, ◌<◌, ◌≤◌, Bool, true, false, List, [], ◌∷◌, ◌++◌, length, get_or, take, drop, set, sym, refl, ap, ◌∙◌, subst, arith}
 use Rattle.std.proofs.lemmas.List.{append_assoc, append-nil, at_drop_more, at_drop_all, take_more_set, drop-set-lt}
-use denote.Ref.{Bor}
-use Rattle.inline_vec.specs.Lists.{KeepsByRest, ToldOf}
+use Rattle.inline_vec.specs.Lists.{KeepsByRest}
 
 -- what stands in front, and what the rest still gives
 pub record Keeping {T : Type 0} (says : T → List T → Bool → Type 0) (xs ys : List T) (w i : ℕ) : Type 0 where
@@ -36,6 +35,6 @@ module _ {T : Type 0} (says : T → List T → Bool → Type 0) (xs ys : List T)
   pub keeping_all : length ys ≤ i → KeepsByRest says xs (take w ys)
   keeping_all le = subst (KeepsByRest says xs) (append-nil (take w ys)) (k.gives [] (subst (λ l. KeepsByRest says l []) (sym (at_drop_all (λ (l : List T). l) ys i le)) refl))
 
--- what a call of the test told
-pub told_of : {T : Type 0} (says : Bor T → Bor (List T) → Bool → Type 0) (p : Bor T) (q : Bor (List T)) (x : T) (rest : List T) (b r : Bool) → p.now ≡ x → q.now ≡ rest → says p q r → r ≡ b → ToldOf says x rest b
-told_of says p q x rest b r value behind told is = (p, value, (q, behind, subst (says p q) is told))
+-- what the test answered, of the values behind
+pub told_of : {T : Type 0} (says : T → List T → Bool → Type 0) (x : T) (q rest : List T) (b r : Bool) → says x q r → q ≡ rest → r ≡ b → says x rest b
+told_of says x q rest b r told behind is = subst (λ l. says x l b) behind (subst (says x q) is told)

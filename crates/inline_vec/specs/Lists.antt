@@ -1,15 +1,10 @@
 -- What a list of fixed memory holds.
 use Rattle.std.specs.Prelude.{◌≡◌, Bool, cond, List, [], ◌∷◌, take}
-use denote.Ref.{Bor}
 use Rattle.inline_vec.specs.declared.InlineVec.{InlineVec}
 
 -- the values in their order
 abbrev pub items : {T : Type 0} {n : _} → InlineVec T n → List T
 items v = take v.len v.places
-
--- A test answered b of a value and of those behind it.
-abbrev pub ToldOf : {T : Type 0} → (Bor T → Bor (List T) → Bool → Type 0) → T → List T → Bool → Type 0
-ToldOf {T} says x rest b = (p : Bor T) × (p.now ≡ x) × ((q : Bor (List T)) × (q.now ≡ rest) × says p q b)
 
 -- The values that a test accepts, in order. It is told of each value and of all that stand behind it.
 abbrev pub KeepsByRest : {T : Type 0} → (T → List T → Bool → Type 0) → List T → List T → Type 0

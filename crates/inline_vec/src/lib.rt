@@ -8,6 +8,7 @@ mod impls;
 mod retain;
 
 pub use calls::Full;
+pub use retain::RestTest;
 use std::alloc::AllocError;
 
 // The first `len` places count, whatever the others hold.

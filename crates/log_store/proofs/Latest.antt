@@ -1,8 +1,7 @@
 -- The latest records alone mean what all of them mean, and there is one for each item that has a record.
 use Rattle.std.proofs.Common.{◌≡◌, ℕ, zero, suc, ◌+◌, ◌<◌, ◌≤◌, Bool, true, false, cond, not, ◌||◌, eqb, List, [], ◌∷◌, length, refl, ap, ◌∙◌, subst, arith}
 use Rattle.std.proofs.lemmas.Bool.{both_ways, eqb-true, eqb-false, ne_eqb}
-use denote.Ref.{Bor}
-use Rattle.inline_vec.specs.Lists.{KeepsByRest, ToldOf}
+use Rattle.inline_vec.specs.Lists.{KeepsByRest}
 use Rattle.store.specs.Slot.{Slot, slot, blank}
 use Rattle.log_store.specs.Records.{item_of, has, last_or, latest, latest_only, counted, different_below, different, roomy}
 use Rattle.log_store.specs.declared.records.LogRecord.{LogRecord}
@@ -89,13 +88,9 @@ pub different-few : (rs : List LogRecord) → different rs ≤ 64
 different-few rs = at_most 64 rs
 
 -- keeping the records that no later one of their item follows leaves the latest alone
-pub kept_latest : (says : Bor LogRecord → Bor (List LogRecord) → Bool → Type 0)
-    → ((p : Bor LogRecord) (q : Bor (List LogRecord)) (b : Bool) → says p q b → b ≡ not (has q.now (item_of p.now)))
-    → (xs ys : List LogRecord) → KeepsByRest (ToldOf says) xs ys → ys ≡ latest_only xs
-kept_latest says test [] ys e = e
-kept_latest says test (x ∷ xs) ys (b, (p, value, (q, behind, told)), (zs, rest, e)) =
-    let is : b ≡ not (has xs (item_of x)) = test p q b told ∙ ap (λ (ls : List LogRecord). not (has ls (item_of p.now))) behind ∙ ap (λ (r : LogRecord). not (has xs (item_of r))) value in
-    e ∙ go (has xs (item_of x)) b is (kept_latest says test xs zs rest)
+pub kept_latest : (xs ys : List LogRecord) → KeepsByRest (λ r later is. is ≡ not (has later (item_of r))) xs ys → ys ≡ latest_only xs
+kept_latest [] ys e = e
+kept_latest (x ∷ xs) ys (b, told, (zs, rest, e)) = e ∙ go (has xs (item_of x)) b told (kept_latest xs zs rest)
   where
     go : (h c : Bool) → c ≡ not h → zs ≡ latest_only xs → cond c (x ∷ zs) zs ≡ cond h (latest_only xs) (x ∷ latest_only xs)
     go true c n k = ap (λ d. cond d (x ∷ zs) zs) n ∙ k

@@ -31,7 +31,10 @@ impl fmt::Display for Tally {
 }
 
 // Counts the lines of a text that a check finds right.
-pub fn each_line<F: Fn(&str) -> anyhow::Result<bool>>(text: &str, right: F) -> anyhow::Result<Tally>
+pub(crate) fn each_line<F: Fn(&str) -> anyhow::Result<bool>>(
+    text: &str,
+    right: F,
+) -> anyhow::Result<Tally>
     requires { F.IsAlwaysCallable right }
 {
     let mut tally = Tally::default();
@@ -111,7 +114,10 @@ pub fn cut(message: &[u8], at: usize) -> (&[u8], &[u8]) {
 }
 
 // Counts the cuts of a message one byte above the longest at which it is refused.
-pub fn too_long<F: Fn(&[u8], &[u8]) -> bool>(heap: Global, refuses: F) -> Result<Tally, AllocError>
+pub(crate) fn too_long<F: Fn(&[u8], &[u8]) -> bool>(
+    heap: Global,
+    refuses: F,
+) -> Result<Tally, AllocError>
     requires { F.IsAlwaysCallable refuses }
 {
     let long = pattern(heap, 65536)?;

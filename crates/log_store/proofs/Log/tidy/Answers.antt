@@ -1,9 +1,9 @@
-use Rattle.std.proofs.Common.{length, ap, ◌∙◌, rules, tests}
+use Rattle.std.proofs.Common.{length, ap, ◌∙◌}
 use Rattle.inline_vec.specs.Lists.{items}
 use Rattle.log_store.proofs.Latest.{kept_latest, length-latest}
 use Rattle.log_store.proofs.Log.tidy.Goals as goal
 
 pub returns : goal.returns
 returns g c =
-    let kept = kept_latest _ (λ p q b k. search (rules, tests)) (items c.args.self.now.records) (items c.retain_by_rest.new.self) c.retain_by_rest.ensures in
+    let kept = kept_latest (items c.args.self.now.records) (items c.retain_by_rest.new.self) c.retain_by_rest.ensures in
     record { kept = kept; count = ap length kept ∙ length-latest (items c.args.self.now.records) }
