@@ -1,7 +1,7 @@
 -- Digits to bytes, two digits at a time.
-use Rattle.std.proofs.Common.{◌≡◌, ℕ, suc, ◌+◌, ◌*◌, ◌%◌, ◌<◌, ◌≤◌, List, [], ◌∷◌, ◌++◌, length, get_or, take, drop, set, Some, None, Option, sym, refl, ap, ◌∙◌, append_assoc, arith, length-append, drop-cons}
-use Rattle.std.proofs.lemmas.List.{append-nil, flat_map_more, set_at, take_more, take_more_set}
-use Rattle.lines.specs.Hex.{before, byte_digits, digit_value, hex, paired, unhex}
+use Rattle.std.proofs.Common.{◌≡◌, ℕ, suc, ◌+◌, ◌*◌, ◌%◌, ◌<◌, List, [], ◌∷◌, ◌++◌, length, get_or, take, drop, set, Some, None, Option, sym, refl, ap, ◌∙◌, append_assoc, arith, drop-cons}
+use Rattle.std.proofs.lemmas.List.{append-nil, take_more_set}
+use Rattle.lines.specs.Hex.{before, digit_value, hex, paired, unhex}
 
 paired_none : (h l : Option ℕ) → paired h l None ≡ None
 paired_none (Some h) (Some l) = refl

@@ -1,5 +1,5 @@
-use Rattle.std.proofs.Common.{Some, None, arith}
-use Rattle.lines.proofs.Calls.{called, too_long}
+use Rattle.std.proofs.Common.{arith}
+use Rattle.lines.proofs.Calls.{too_long}
 use Rattle.lines.proofs.call.frame_of.Goals as goal
 
 pub returns-then-line-gt-LINE_LIMIT : goal.returns-then-line-gt-LINE_LIMIT
